@@ -1,0 +1,21 @@
+use Rattle.sha256.specs.Running.{after}
+use Rattle.sha256.proofs.Streaming.{finished-after}
+use borrow.Author.Needs.{needs}
+use Rattle.sha256.proofs.digest.Statement.{statement}
+use Rattle.sha256.proofs.digest.Tie as tie
+
+new-requires : tie.Need-new-requires
+new-requires c κs = search needs
+
+absorb-requires : tie.Need-absorb-requires
+absorb-requires c κs = search needs
+
+finish-requires : tie.Need-finish-requires
+finish-requires c κs = search needs
+
+returns : tie.Need-returns
+unfolding after
+returns c = cc (finished-after (c .before .before .before .before .args .bytes .now))
+
+pub digest-spec : {M : Type 1} → statement M
+digest-spec = tie.close (tie.spec new-requires absorb-requires finish-requires returns)

@@ -1,0 +1,34 @@
+-- A running hash: what it is after a part of the message more, and the digest that it ends with.
+use Prim.Native.Nat.{ℕ, _+_, _-_, _*_, _/_, _%_, _^_}
+use mathlib.Core.List.{List, [], _++_}
+use lib.ListN.{length, take, drop, replicate}
+use Rattle.sha256.specs.declared.Running.{Running}
+use Rattle.sha256.specs.Fips180.{H0, padding, hashAll, bytesOf}
+
+-- the bytes since the last whole block
+unfoldable pub pending : Running → List ℕ
+pending s = take (s .total % 64) (s .block)
+
+-- bytes in the first places of a block, and zeros behind them
+unfoldable pub inBlock : List ℕ → List ℕ
+inBlock xs = xs ++ replicate (64 - length xs) 0
+
+-- the whole blocks of m are hashed, and the bytes behind them wait
+unfoldable pub resting : List ℕ → List ℕ → ℕ → Running
+resting v m total = record { h = hashAll v m; block = inBlock (drop (length m / 64 * 64) m); total = total }
+
+-- at the start
+unfoldable pub fresh : Running
+fresh = record { h = H0; block = inBlock []; total = 0 }
+
+-- after a part more. The count of bytes wraps at 2 ^ 64, past every message that the standard allows
+unfoldable pub absorbed : Running → List ℕ → Running
+absorbed s part = resting (s .h) (pending s ++ part) ((s .total + length part) % 2 ^ 64)
+
+-- after the message m from the start
+unfoldable pub after : List ℕ → Running
+after m = absorbed fresh m
+
+-- the digest: the padding goes behind what waits
+unfoldable pub finished : Running → List ℕ
+finished s = bytesOf (hashAll (s .h) (pending s ++ padding (s .total)))
