@@ -5,3 +5,5 @@ pub mod Blocks
 pub mod Filling
 pub mod Streaming
 pub mod Padding
+pub mod Constants
+pub mod Examples

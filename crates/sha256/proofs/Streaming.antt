@@ -1,14 +1,14 @@
 -- A running hash: its laws for clients, and the cases of its code.
 use Prim.Native.Nat.{ℕ, _+_, _-_, _*_, _/_, _%_, _^_, _≤_, _<_}
 use mathlib.Core.Path.{_≡_, refl, sym, ap, _∙_}
-use mathlib.Core.List.{List, [], _++_, append-assoc, append-nil}
+use mathlib.Core.List.{List, [], _∷_, _++_, flatten, append-assoc, append-nil}
 use native.Mathlib.Nat.{zero-add, sub-zero}
 use native.Mathlib.Omega.{arith}
 use lib.ListN.{length, take, drop, length-append, length-take, length-drop, drop-of-length-le, take-append-drop}
 use lib.Seq.{take-all, drop-append-le, drop-drop}
 use Rattle.sha256.specs.declared.Running.{Running}
 use Rattle.sha256.specs.Fips180.{H0, zeros, padding, padded, compress, hash, hashAll, bytesOf, sha256}
-use Rattle.sha256.specs.Running.{pending, inBlock, resting, fresh, absorbed, after, finished}
+use Rattle.sha256.specs.Running.{pending, inBlock, resting, fresh, absorbed, absorbedAll, after, finished}
 use Rattle.sha256.proofs.Blocks.{hash-prefix, hash-add}
 use Rattle.sha256.proofs.Filling.{block-full, take-block}
 
@@ -93,6 +93,21 @@ finished-after m =
     ∙ ap (λ (x : List ℕ). bytesOf (hashAll (hashAll H0 m) (x ++ padding (length m % 2 ^ 64)))) (pending-rest H0 m (length m % 2 ^ 64) (omega arith))
     ∙ ap (λ (x : List ℕ). bytesOf (hashAll (hashAll H0 m) (drop (length m / 64 * 64) m ++ x))) (padding-wraps (length m))
     ∙ ap bytesOf (hash-split (length m / 64) H0 m p (omega arith))
+
+-- the same for a list of parts: only their join counts
+pub absorbed-parts : (m : List ℕ) (parts : List (List ℕ)) → absorbedAll (after m) parts ≡ after (m ++ flatten parts)
+unfolding absorbedAll flatten
+absorbed-parts m [] = ap after (sym (append-nil m))
+absorbed-parts m (p ∷ ps) =
+    ap (λ (s : Running). absorbedAll s ps) (absorbed-after m p)
+    ∙ absorbed-parts (m ++ p) ps
+    ∙ ap after (append-assoc m p (flatten ps))
+
+pub finished-parts : (parts : List (List ℕ)) → finished (absorbedAll fresh parts) ≡ sha256 (flatten parts)
+finished-parts parts =
+    ap (λ (s : Running). finished (absorbedAll s parts)) fresh-after
+    ∙ ap finished (absorbed-parts [] parts)
+    ∙ finished-after (flatten parts)
 
 -- a block before the rest
 module _ (v b d : List ℕ) (l : length b ≡ 64) where

@@ -1,2 +1,3 @@
 pub mod Fips180
+pub mod Constants
 pub mod Running

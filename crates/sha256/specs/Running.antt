@@ -1,6 +1,6 @@
 -- A running hash: what it is after a part of the message more, and the digest that it ends with.
 use Prim.Native.Nat.{ℕ, _+_, _-_, _*_, _/_, _%_, _^_}
-use mathlib.Core.List.{List, [], _++_}
+use mathlib.Core.List.{List, [], _∷_, _++_}
 use lib.ListN.{length, take, drop, replicate}
 use Rattle.sha256.specs.declared.Running.{Running}
 use Rattle.sha256.specs.Fips180.{H0, padding, hashAll, bytesOf}
@@ -24,6 +24,11 @@ fresh = record { h = H0; block = inBlock []; total = 0 }
 -- after a part more. The count of bytes wraps at 2 ^ 64, past every message that the standard allows
 unfoldable pub absorbed : Running → List ℕ → Running
 absorbed s part = resting (s .h) (pending s ++ part) ((s .total + length part) % 2 ^ 64)
+
+-- after parts, one after the other
+unfoldable pub absorbedAll : Running → List (List ℕ) → Running
+absorbedAll s [] = s
+absorbedAll s (part ∷ parts) = absorbedAll (absorbed s part) parts
 
 -- after the message m from the start
 unfoldable pub after : List ℕ → Running
