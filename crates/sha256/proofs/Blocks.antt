@@ -1,12 +1,12 @@
 -- The whole blocks of a message, one after the other.
 use Prim.Native.Nat.{ℕ, zero, suc, _+_, _-_, _*_, _/_, _≤_, _<_}
-use mathlib.Core.Path.{_≡_, refl}
-use mathlib.Core.List.{List, _++_}
+use mathlib.Core.Path.{_≡_, refl, sym, ap, _∙_}
+use mathlib.Core.List.{List, [], _++_, append-nil}
 use native.Mathlib.Nat.{zero-add, suc-add}
 use native.Mathlib.Omega.{arith}
-use lib.ListN.{length, take, drop, length-drop}
-use lib.Seq.{take-append-le, drop-append-le, drop-drop}
-use Rattle.sha256.specs.Fips180.{compress, hash}
+use lib.ListN.{length, take, drop, length-append, length-drop, drop-of-length-le}
+use lib.Seq.{take-all, take-append-le, drop-append-le, drop-drop}
+use Rattle.sha256.specs.Fips180.{compress, hash, hashAll}
 
 -- whole blocks do not look past themselves
 pub hash-prefix : (n : ℕ) (v m ys : List ℕ) → n * 64 ≤ length m → hash n v (m ++ ys) ≡ hash n v m
@@ -24,6 +24,35 @@ hash-add zero b v m = rw (zero-add b)
 hash-add (suc a) b v m =
     let e : suc a * 64 ≡ 64 + a * 64 = omega arith in
     rw (suc-add a b, e, ← drop-drop (a * 64) 64 m) (hash-add a b (compress v (take 64 m)) (drop 64 m))
+
+-- q blocks of xs are hashed before the rest of xs and ys
+module _ (q : ℕ) (v xs ys : List ℕ) (h : q * 64 ≤ length xs) where
+  pub rest-append : drop (q * 64) xs ++ ys ≡ drop (q * 64) (xs ++ ys)
+  rest-append = sym (drop-append-le (q * 64) xs ys h)
+
+  pub rest-count : length (xs ++ ys) / 64 ≡ q + length (drop (q * 64) xs ++ ys) / 64
+  rest-count = simp (length-append, length-drop) (omega arith)
+
+  pub hash-split : hashAll (hash q v xs) (drop (q * 64) xs ++ ys) ≡ hashAll v (xs ++ ys)
+  hash-split =
+      let n : ℕ = length (drop (q * 64) xs ++ ys) / 64 in
+      cc (rest-count, rest-append, hash-add q n v (xs ++ ys), hash-prefix q v xs ys h)
+
+-- a block before the rest
+module _ (v b d : List ℕ) (l : length b ≡ 64) where
+  pub block-hash : hash 1 v b ≡ compress v b
+  unfolding hash
+  block-hash = ap (compress v) (take-all 64 b (omega arith))
+
+  pub block-rest : drop (1 * 64) b ++ d ≡ d
+  block-rest = rw (drop-of-length-le b {i = 64} (omega arith))
+
+  pub hash-first : hashAll v (b ++ d) ≡ hashAll (compress v b) d
+  hash-first = cc (hash-split 1 v b d (omega arith), block-hash, block-rest)
+
+pub hash-one : (v b : List ℕ) → length b ≡ 64 → hashAll v b ≡ compress v b
+unfolding hash
+hash-one v b l = ap (hashAll v) (sym (append-nil b)) ∙ hash-first v b [] l
 
 hash-suc : (n : ℕ) (v m : List ℕ) → hash (suc n) v m ≡ hash n (compress v (take 64 m)) (drop 64 m)
 unfolding hash

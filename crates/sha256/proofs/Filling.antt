@@ -4,7 +4,8 @@ use mathlib.Core.Path.{_≡_, sym, ap, _∙_}
 use mathlib.Core.List.{List, [], _∷_, _++_, append-assoc, append-nil}
 use native.Mathlib.Numerals.{add-one}
 use native.Mathlib.Omega.{arith}
-use lib.ListN.{length, getD, take, drop, set, replicate, length-append, length-take, length-replicate, drop-of-length-le, replicate-append-replicate}
+use lib.ListN.{length, getD, take, drop, set, replicate, length-append, length-take, length-replicate}
+use lib.ListN.{drop-of-length-le, replicate-append-replicate}
 use lib.Seq.{paste, paste-suc, take-paste, take-length, take-at}
 use Rattle.sha256.specs.Running.{inBlock}
 use Rattle.sha256.proofs.Lists.{take-store}
@@ -29,7 +30,8 @@ clear-step d out at i a l e =
     take-store out i 0 l
     ∙ ap (λ (x : List ℕ). x ++ (0 ∷ [])) e
     ∙ append-assoc (take at d) (replicate (i - at) 0) (0 ∷ [])
-    ∙ ap (λ (x : List ℕ). take at d ++ x) (replicate-append-replicate (i - at) 1 0 ∙ sym (ap (λ (k : ℕ). replicate k 0) n))
+    ∙ ap (λ (x : List ℕ). take at d ++ x)
+    (replicate-append-replicate (i - at) 1 0 ∙ sym (ap (λ (k : ℕ). replicate k 0) n))
 
 pub in-block : (d : List ℕ) (at : ℕ) (part s r : List ℕ) → length d ≡ 64 → at + length part ≤ 64
     → s ≡ paste d at part (length part) → r ≡ take (at + length part) s ++ replicate (64 - (at + length part)) 0
@@ -57,7 +59,8 @@ take-block xs n l h =
     let e : n - length xs + (64 - n) ≡ 64 - length xs = omega arith in
     let k : length (xs ++ replicate (n - length xs) 0) ≡ n = simp (length-append, length-replicate) (omega arith) in
     let s : xs ++ replicate (64 - length xs) 0 ≡ xs ++ replicate (n - length xs) 0 ++ replicate (64 - n) 0
-    = rw (← e, ← replicate-append-replicate {A = ℕ} (n - length xs) (64 - n) 0) (sym (append-assoc xs (replicate (n - length xs) 0) (replicate (64 - n) 0)))
+    = rw (← e, ← replicate-append-replicate {A = ℕ} (n - length xs) (64 - n) 0)
+    (sym (append-assoc xs (replicate (n - length xs) 0) (replicate (64 - n) 0)))
     in
     ap (take n) s ∙ take-at (xs ++ replicate (n - length xs) 0) (replicate (64 - n) 0) n k
 

@@ -3,7 +3,10 @@ pub mod Schedule
 pub mod Rounds
 pub mod Blocks
 pub mod Filling
-pub mod Streaming
+pub mod Resting
+pub mod Absorbing
 pub mod Padding
+pub mod Finishing
+pub mod Clients
 pub mod Constants
 pub mod Examples

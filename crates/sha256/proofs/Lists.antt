@@ -1,10 +1,10 @@
 -- Lists that a loop fills from the front.
-use Prim.Native.Nat.{ℕ, _+_, _≤_, _<_}
+use Prim.Native.Nat.{ℕ, _+_, _-_, _≤_, _<_}
 use mathlib.Core.Path.{_≡_, sym, ap, _∙_}
 use mathlib.Core.List.{List, [], _∷_, _++_}
 use native.Mathlib.Numerals.{add-one}
 use native.Mathlib.Omega.{arith}
-use lib.ListN.{length, take, set}
+use lib.ListN.{length, take, drop, set, length-drop}
 use lib.Seq.{take-suc-set, take-all}
 use Rattle.sha256.specs.Fips180.{tabulate}
 
@@ -25,3 +25,7 @@ tabulate-suc n f = rw add-one
 pub tabulate-step : (f : ℕ → ℕ) (w : List ℕ) (t v : ℕ) → t < length w → take t w ≡ tabulate t f → v ≡ f t
     → take (t + 1) (set w t v) ≡ tabulate (t + 1) f
 tabulate-step f w t v h i e = take-store w t v h ∙ cc (tabulate-suc t f)
+
+-- what stands from n on, as a slice of the code has it
+pub rest-of : (m : List ℕ) (n : ℕ) → take (length m - n) (drop n m) ≡ drop n m
+rest-of m n = take-all (length m - n) (drop n m) (simp length-drop (omega arith))

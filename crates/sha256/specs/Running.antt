@@ -1,9 +1,10 @@
 -- A running hash: what it is after a part of the message more, and the digest that it ends with.
 use Prim.Native.Nat.{ℕ, _+_, _-_, _*_, _/_, _%_, _^_}
-use mathlib.Core.List.{List, [], _∷_, _++_}
+use mathlib.Core.Path.{_≡_}
+use mathlib.Core.List.{List, [], _∷_, _++_, flatten}
 use lib.ListN.{length, take, drop, replicate}
 use Rattle.sha256.specs.declared.Running.{Running}
-use Rattle.sha256.specs.Fips180.{H0, padding, hashAll, bytesOf}
+use Rattle.sha256.specs.Fips180.{H0, padding, hashAll, bytesOf, sha256}
 
 -- the bytes since the last whole block
 unfoldable pub pending : Running → List ℕ
@@ -37,3 +38,11 @@ after m = absorbed fresh m
 -- the digest: the padding goes behind what waits
 unfoldable pub finished : Running → List ℕ
 finished s = bytesOf (hashAll (s .h) (pending s ++ padding (s .total)))
+
+-- For clients, over lists of bytes. Absorbing parts one after the other is absorbing their join
+abbrev pub PartsJoin : Type 0
+PartsJoin = (m : List ℕ) (parts : List (List ℕ)) → absorbedAll (after m) parts ≡ after (m ++ flatten parts)
+
+-- finishing gives SHA-256 of all that was absorbed
+abbrev pub FinishHashes : Type 0
+FinishHashes = (m : List ℕ) → finished (after m) ≡ sha256 m

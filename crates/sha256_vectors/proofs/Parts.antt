@@ -8,7 +8,7 @@ use lib.Seq.{take-add, take-all}
 use Rattle.sha256.specs.declared.Running.{Running}
 use Rattle.sha256.specs.Fips180.{sha256}
 use Rattle.sha256.specs.Running.{fresh, absorbed, after, finished}
-use Rattle.sha256.proofs.Streaming.{fresh-after, absorbed-after, finished-after}
+use Rattle.sha256.proofs.Clients.{fresh-after, absorbed-after, finished-after}
 
 -- the first i bytes are in, and then those up to e
 pub part-after : (m : List ℕ) (i e : ℕ) (s r : Running) → s ≡ after (take i m) → i ≤ e

@@ -1,5 +1,5 @@
 use Rattle.sha256.specs.Running.{after}
-use Rattle.sha256.proofs.Streaming.{finished-after}
+use Rattle.sha256.proofs.Clients.{finished-after}
 use borrow.Author.Needs.{needs}
 use Rattle.sha256.proofs.digest.Statement.{statement}
 use Rattle.sha256.proofs.digest.Tie as tie

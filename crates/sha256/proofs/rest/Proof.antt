@@ -1,4 +1,4 @@
-use Rattle.sha256.proofs.Streaming.{resting-parts}
+use Rattle.sha256.proofs.Resting.{resting-parts}
 use borrow.Author.Needs.{needs}
 use Rattle.sha256.proofs.rest.Statement.{statement}
 use Rattle.sha256.proofs.rest.Tie as tie

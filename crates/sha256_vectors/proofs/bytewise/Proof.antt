@@ -3,7 +3,7 @@ use mathlib.Core.Path.{_≡_, _∙_}
 use native.Mathlib.Omega.{arith}
 use lib.ListN.{length, take}
 use Rattle.sha256.specs.Running.{after}
-use Rattle.sha256.proofs.Streaming.{fresh-after}
+use Rattle.sha256.proofs.Clients.{fresh-after}
 use Rattle.sha256_vectors.proofs.Parts.{part-after, whole-after}
 use borrow.Author.Needs.{needs}
 use Rattle.sha256_vectors.proofs.bytewise.Statement.{statement}

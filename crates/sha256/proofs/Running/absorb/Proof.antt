@@ -1,6 +1,6 @@
 use mathlib.Core.Path.{_≡_, refl}
 use lib.ListN.{length}
-use Rattle.sha256.proofs.Streaming.{absorb-aligned, absorb-within, absorb-across}
+use Rattle.sha256.proofs.Absorbing.{absorb-aligned, absorb-within, absorb-across}
 use borrow.Author.Needs.{needs}
 use Rattle.sha256.proofs.Running.absorb.Statement.{statement}
 use Rattle.sha256.proofs.Running.absorb.Tie as tie

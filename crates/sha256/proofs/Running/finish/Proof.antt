@@ -1,6 +1,6 @@
 use mathlib.Core.Path.{_≡_}
 use lib.ListN.{length}
-use Rattle.sha256.proofs.Padding.{finish-one, finish-two}
+use Rattle.sha256.proofs.Finishing.{finish-one, finish-two}
 use borrow.Author.Needs.{needs}
 use Rattle.sha256.proofs.Running.finish.Statement.{statement}
 use Rattle.sha256.proofs.Running.finish.Tie as tie
