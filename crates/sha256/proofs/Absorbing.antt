@@ -10,7 +10,7 @@ use Rattle.sha256.specs.Fips180.{compress, hash}
 use Rattle.sha256.specs.Running.{pending, inBlock, resting, absorbed}
 use Rattle.sha256.proofs.Lists.{rest-of}
 use Rattle.sha256.proofs.Filling.{block-full}
-use Rattle.sha256.proofs.Resting.{resting-first}
+use Rattle.sha256.proofs.Waiting.{resting-first}
 
 module _ (s : Running) (part : List ℕ) (t : ℕ) (e : t ≡ (s .total + length part) % 2 ^ 64) where
   pub absorb-aligned : (r : Running) → s .total % 64 ≡ 0 → r ≡ resting (s .h) part t → r ≡ absorbed s part

@@ -10,7 +10,7 @@ use Rattle.sha256.specs.Fips180.{H0, zeros, padding, padded, hash, hashA
 use Rattle.sha256.specs.Running.{pending, inBlock, resting, fresh, absorbed, absorbedAll, after, finished}
 use Rattle.sha256.specs.Running.{PartsJoin, FinishHashes}
 use Rattle.sha256.proofs.Blocks.{hash-split}
-use Rattle.sha256.proofs.Resting.{resting-split, pending-rest, pending-length}
+use Rattle.sha256.proofs.Waiting.{resting-split, pending-rest, pending-length}
 
 -- absorbing two parts one after the other is absorbing their join, from any state
 pub absorbed-join : (s : Running) (xs ys : List ℕ) → length (s .block) ≡ 64

@@ -78,11 +78,11 @@ unfoldable pub padded : List ℕ → List ℕ
 padded m = m ++ padding (length m)
 
 -- §5.2.1: word t of a block of 64 bytes, the first byte the highest
-abbrev pub word : ℕ → ℕ → ℕ → ℕ → ℕ
-word a b c d = a * 2 ^ 24 + b * 2 ^ 16 + c * 2 ^ 8 + d
+abbrev pub wordOf : ℕ → ℕ → ℕ → ℕ → ℕ
+wordOf a b c d = a * 2 ^ 24 + b * 2 ^ 16 + c * 2 ^ 8 + d
 
 abbrev pub wordAt : List ℕ → ℕ → ℕ
-wordAt m t = word (getD m (4 * t) 0) (getD m (4 * t + 1) 0) (getD m (4 * t + 2) 0) (getD m (4 * t + 3) 0)
+wordAt m t = wordOf (getD m (4 * t) 0) (getD m (4 * t + 1) 0) (getD m (4 * t + 2) 0) (getD m (4 * t + 3) 0)
 
 -- §5.3.3: the first hash value, from the square roots of the first eight primes
 unfoldable pub H0 : List ℕ

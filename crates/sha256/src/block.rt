@@ -103,7 +103,7 @@ fn word_at(block: &[u8], t: usize) -> u32
     word_of(block[at], block[at + 1], block[at + 2], block[at + 3])
 }
 
-fn mix(w2: u32, w7: u32, w15: u32, w16: u32) -> u32
+fn mixed(w2: u32, w7: u32, w15: u32, w16: u32) -> u32
     ensures { λ r. ⌜ r ≡ mixed w2 w7 w15 w16 ⌝ }
 {
     add(add(add(small_sigma1(w2), w7), small_sigma0(w15)), w16)
@@ -117,12 +117,12 @@ fn next_word(block: &[u8], t: usize, w: &[u32; 64]) -> u32
     if t < 16 {
         word_at(block, t)
     } else {
-        mix(w[t - 2], w[t - 7], w[t - 15], w[t - 16])
+        mixed(w[t - 2], w[t - 7], w[t - 15], w[t - 16])
     }
 }
 
 // The message schedule of a block.
-fn schedule_of(block: &[u8]) -> [u32; 64]
+fn schedule(block: &[u8]) -> [u32; 64]
     requires { ⌜ length (now block) ≡ 64 ⌝ }
     ensures { λ r. ⌜ r ≡ schedule (now (block .entry)) 64 ⌝ }
 {
@@ -135,7 +135,7 @@ fn schedule_of(block: &[u8]) -> [u32; 64]
     w
 }
 
-fn initial_of(v: [u32; 8]) -> Work
+fn initial(v: [u32; 8]) -> Work
     ensures { λ r. ⌜ r ≡ initial v ⌝ }
 {
     Work {
@@ -162,7 +162,7 @@ fn t2(s: Work) -> u32
     add(big_sigma0(s.a), maj(s.a, s.b, s.c))
 }
 
-fn round_of(s: Work, k: u32, w: u32) -> Work
+fn round(s: Work, k: u32, w: u32) -> Work
     ensures { λ r. ⌜ r ≡ round s k w ⌝ }
 {
     let x = t1(s, k, w);
@@ -184,13 +184,13 @@ fn four_rounds(k: &[u32; 64], w: &[u32; 64], t: usize, s: Work) -> Work
     requires { ⌜ (now k ≡ K) × (t + 4 ≤ 64) ⌝ }
     ensures { λ r. ⌜ r ≡ rounds (now (w .entry)) t 4 s ⌝ }
 {
-    let s1 = round_of(s, k[t], w[t]);
-    let s2 = round_of(s1, k[t + 1], w[t + 1]);
-    let s3 = round_of(s2, k[t + 2], w[t + 2]);
-    round_of(s3, k[t + 3], w[t + 3])
+    let s1 = round(s, k[t], w[t]);
+    let s2 = round(s1, k[t + 1], w[t + 1]);
+    let s3 = round(s2, k[t + 2], w[t + 2]);
+    round(s3, k[t + 3], w[t + 3])
 }
 
-fn all_rounds(w: &[u32; 64], start: Work) -> Work
+fn rounds(w: &[u32; 64], start: Work) -> Work
     ensures { λ r. ⌜ r ≡ rounds (now (w .entry)) 0 64 start ⌝ }
 {
     let k = CONSTANTS;
@@ -203,7 +203,7 @@ fn all_rounds(w: &[u32; 64], start: Work) -> Work
     s
 }
 
-fn combine(v: [u32; 8], s: Work) -> [u32; 8]
+fn combined(v: [u32; 8], s: Work) -> [u32; 8]
     ensures { λ r. ⌜ r ≡ combined v s ⌝ }
 {
     [
@@ -219,12 +219,12 @@ fn combine(v: [u32; 8], s: Work) -> [u32; 8]
 }
 
 // One block into a hash value.
-pub fn compress_block(v: [u32; 8], block: &[u8]) -> [u32; 8]
+pub fn compress(v: [u32; 8], block: &[u8]) -> [u32; 8]
     requires { ⌜ length (now block) ≡ 64 ⌝ }
     ensures { λ r. ⌜ r ≡ compress v (now (block .entry)) ⌝ }
 {
-    let w = schedule_of(block);
-    combine(v, all_rounds(&w, initial_of(v)))
+    let w = schedule(block);
+    combined(v, rounds(&w, initial(v)))
 }
 
 // The whole blocks of m into a hash value, each straight from m.
@@ -235,7 +235,7 @@ pub fn hash_all(v: [u32; 8], m: &[u8]) -> [u32; 8]
     let mut i: usize = 0;
     while 64 <= m.len() - i {
         let end = i + 64;
-        let next = compress_block(h, &m[i..end]);
+        let next = compress(h, &m[i..end]);
         h = next;
         i = end;
     }

@@ -47,7 +47,7 @@ fn clear(block: [u8; 64], at: usize) -> [u8; 64]
 }
 
 // The first bytes of a block, a part behind them, and then zeros.
-fn fill(block: [u8; 64], at: usize, part: &[u8]) -> [u8; 64]
+fn in_block(block: [u8; 64], at: usize, part: &[u8]) -> [u8; 64]
     requires { ⌜ at + length (now part) ≤ 64 ⌝ }
     ensures { λ r. ⌜ r ≡ inBlock (take at block ++ now (part .entry)) ⌝ }
 {
@@ -68,12 +68,12 @@ fn length_bytes(bits: u64) -> [u8; 8]
 }
 
 // The whole blocks of m are hashed, and the bytes behind them wait.
-fn rest(v: [u32; 8], m: &[u8], total: u64) -> Running
+fn resting(v: [u32; 8], m: &[u8], total: u64) -> Running
     ensures { λ r. ⌜ r ≡ resting v (now (m .entry)) total ⌝ }
 {
     let h = block::hash_all(v, m);
     let n = m.len() / 64 * 64;
-    let block = fill([0; 64], 0, &m[n..]);
+    let block = in_block([0; 64], 0, &m[n..]);
     Running { h, block, total }
 }
 
@@ -105,19 +105,19 @@ impl Running {
         let total = std::num::wrapping_add_u64(self.total, part.len() as u64);
         let v = self.h;
         if at == 0 {
-            return rest(v, part, total);
+            return resting(v, part, total);
         }
         let old = self.block;
         let need = 64 - at;
         if part.len() < need {
             return Running {
                 h: v,
-                block: fill(old, at, part),
+                block: in_block(old, at, part),
                 total,
             };
         }
-        let full = fill(old, at, &part[0..need]);
-        rest(block::compress_block(v, &full), &part[need..], total)
+        let full = in_block(old, at, &part[0..need]);
+        resting(block::compress(v, &full), &part[need..], total)
     }
 
     // The digest, after the padding.
@@ -128,12 +128,12 @@ impl Running {
         let size = length_bytes(self.total << 3);
         let v = self.h;
         let old = self.block;
-        let marked = fill(old, at, b"\x80");
+        let marked = in_block(old, at, b"\x80");
         if at < 56 {
-            return block::bytes_of(block::compress_block(v, &store(marked, 56, &size)));
+            return block::bytes_of(block::compress(v, &store(marked, 56, &size)));
         }
-        let h = block::compress_block(v, &marked);
-        block::bytes_of(block::compress_block(h, &store([0; 64], 56, &size)))
+        let h = block::compress(v, &marked);
+        block::bytes_of(block::compress(h, &store([0; 64], 56, &size)))
     }
 }
 

@@ -1,6 +1,6 @@
 // Operations on 32-bit words (FIPS 180-4, §3.2 and §4.1.2).
 ghost use mathlib.Core.Path.{_≡_};
-ghost use Rattle.sha256.specs.Fips180.{_⊞_, Ch, Maj, Σ0, Σ1, σ0, σ1, word, wordByte, lengthByte};
+ghost use Rattle.sha256.specs.Fips180.{_⊞_, Ch, Maj, Σ0, Σ1, σ0, σ1, wordOf, wordByte, lengthByte};
 ghost use Prim.Native.Nat.{_<_};
 
 pub fn add(a: u32, b: u32) -> u32
@@ -47,7 +47,7 @@ pub fn small_sigma1(x: u32) -> u32
 
 // Four bytes as a word, the first byte the highest.
 pub fn word_of(a: u8, b: u8, c: u8, d: u8) -> u32
-    ensures { λ r. ⌜ r ≡ word a b c d ⌝ }
+    ensures { λ r. ⌜ r ≡ wordOf a b c d ⌝ }
 {
     (a as u32) * 0x100_0000 + (b as u32) * 0x1_0000 + (c as u32) * 0x100 + (d as u32)
 }

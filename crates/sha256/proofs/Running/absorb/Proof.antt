@@ -8,57 +8,57 @@ use Rattle.sha256.proofs.Running.absorb.Tie as tie
 wrapping-add-u64-requires : tie.Need-wrapping-add-u64-requires
 wrapping-add-u64-requires c κs = search needs
 
-rest-requires : tie.Need-rest-requires
-rest-requires c κs = search needs
+resting-requires : tie.Need-resting-requires
+resting-requires c κs = search needs
 
 returns : tie.Need-returns
 returns c =
     let a = c .before .before .before .before .before .before .args in
     absorb-aligned (a .self) (a .part .now) _ (c .before .before .before .wrapping-add-u64 .ensures) _
-    (c .before .if1 .taken) (c .rest .ensures)
+    (c .before .if1 .taken) (c .resting .ensures)
 
 sub-need : tie.Need-sub-need
 sub-need c = search needs
 
-fill-requires : tie.Need-fill-requires
-fill-requires c κs = search needs
+in-block-requires : tie.Need-in-block-requires
+in-block-requires c κs = search needs
 
 returns-2 : tie.Need-returns-2
 returns-2 c =
     let a = c .before .before .before .before .before .before .before .before .args in
     let l : length (a .self .block) ≡ 64 = search needs in
     absorb-within (a .self) (a .part .now) _ (c .before .before .before .before .before .wrapping-add-u64 .ensures) _ l
-    (c .before .if2 .taken) (c .fill .ensures)
+    (c .before .if2 .taken) (c .in-block .ensures)
 
-sub-fill : tie.Need-sub-fill
-sub-fill c = search needs
+sub-in-block : tie.Need-sub-in-block
+sub-in-block c = search needs
 
-part-fill-start : tie.Need-part-fill-start
-part-fill-start c = search needs
+part-in-block-start : tie.Need-part-in-block-start
+part-in-block-start c = search needs
 
-part-fill-end : tie.Need-part-fill-end
-part-fill-end c = search needs
+part-in-block-end : tie.Need-part-in-block-end
+part-in-block-end c = search needs
 
-fill-requires-2 : tie.Need-fill-requires-2
-fill-requires-2 c κs = search needs
+in-block-requires-2 : tie.Need-in-block-requires-2
+in-block-requires-2 c κs = search needs
 
-slice-aggregate-compress-block : tie.Need-slice-aggregate-compress-block
-slice-aggregate-compress-block c = search needs
+slice-aggregate-compress : tie.Need-slice-aggregate-compress
+slice-aggregate-compress c = search needs
 
-compress-block-requires : tie.Need-compress-block-requires
-compress-block-requires c κs = search needs
+compress-requires : tie.Need-compress-requires
+compress-requires c κs = search needs
 
-sub-rest : tie.Need-sub-rest
-sub-rest c = search needs
+sub-resting : tie.Need-sub-resting
+sub-resting c = search needs
 
-part-rest-start : tie.Need-part-rest-start
-part-rest-start c = search needs
+part-resting-start : tie.Need-part-resting-start
+part-resting-start c = search needs
 
-part-rest-end : tie.Need-part-rest-end
-part-rest-end c = search needs
+part-resting-end : tie.Need-part-resting-end
+part-resting-end c = search needs
 
-rest-requires-2 : tie.Need-rest-requires-2
-rest-requires-2 c κs = search needs
+resting-requires-2 : tie.Need-resting-requires-2
+resting-requires-2 c κs = search needs
 
 returns-3 : tie.Need-returns-3
 returns-3 c =
@@ -67,26 +67,27 @@ returns-3 c =
     absorb-across (a .self) (a .part .now) _
     (c .before .before .before .before .before .before .before .before .before .before .wrapping-add-u64 .ensures) _ _ _
     _ l refl (c .before .before .before .before .before .before .if2 .left)
-    (c .before .before .before .before .fill2 .ensures) (c .before .before .compress-block .ensures) (c .rest2 .ensures)
+    (c .before .before .before .before .in-block2 .ensures) (c .before .before .compress .ensures)
+    (c .resting2 .ensures)
 
 pub absorb-spec : {M : Type 1} → statement M
 absorb-spec =
     tie.close
     (tie.spec
     wrapping-add-u64-requires
-    rest-requires
+    resting-requires
     returns
     sub-need
-    fill-requires
+    in-block-requires
     returns-2
-    sub-fill
-    part-fill-start
-    part-fill-end
-    fill-requires-2
-    slice-aggregate-compress-block
-    compress-block-requires
-    sub-rest
-    part-rest-start
-    part-rest-end
-    rest-requires-2
+    sub-in-block
+    part-in-block-start
+    part-in-block-end
+    in-block-requires-2
+    slice-aggregate-compress
+    compress-requires
+    sub-resting
+    part-resting-start
+    part-resting-end
+    resting-requires-2
     returns-3)

@@ -8,11 +8,11 @@ use Rattle.sha256.proofs.Running.finish.Tie as tie
 length-bytes-requires : tie.Need-length-bytes-requires
 length-bytes-requires c κs = search needs
 
-slice-aggregate-fill : tie.Need-slice-aggregate-fill
-slice-aggregate-fill c = search needs
+slice-aggregate-in-block : tie.Need-slice-aggregate-in-block
+slice-aggregate-in-block c = search needs
 
-fill-requires : tie.Need-fill-requires
-fill-requires c κs = search needs
+in-block-requires : tie.Need-in-block-requires
+in-block-requires c κs = search needs
 
 slice-aggregate-store : tie.Need-slice-aggregate-store
 slice-aggregate-store c = search needs
@@ -20,11 +20,11 @@ slice-aggregate-store c = search needs
 store-requires : tie.Need-store-requires
 store-requires c κs = search needs
 
-slice-aggregate-compress-block : tie.Need-slice-aggregate-compress-block
-slice-aggregate-compress-block c = search needs
+slice-aggregate-compress : tie.Need-slice-aggregate-compress
+slice-aggregate-compress c = search needs
 
-compress-block-requires : tie.Need-compress-block-requires
-compress-block-requires c κs = search needs
+compress-requires : tie.Need-compress-requires
+compress-requires c κs = search needs
 
 bytes-of-requires : tie.Need-bytes-of-requires
 bytes-of-requires c κs = search needs
@@ -35,15 +35,15 @@ returns c =
     let l : length (s .block) ≡ 64 = search needs in
     finish-one s l _ _
     (c .before .before .before .before .before .before .before .before .before .before .length-bytes .ensures)
-    (c .before .before .before .before .before .before .fill .ensures) _ _ _
+    (c .before .before .before .before .before .before .in-block .ensures) _ _ _
     (c .before .before .before .before .before .if1 .taken) (c .before .before .before .store .ensures)
-    (c .before .compress-block .ensures) (c .bytes-of .ensures)
+    (c .before .compress .ensures) (c .bytes-of .ensures)
 
-slice-aggregate-compress-block-2 : tie.Need-slice-aggregate-compress-block-2
-slice-aggregate-compress-block-2 c = search needs
+slice-aggregate-compress-2 : tie.Need-slice-aggregate-compress-2
+slice-aggregate-compress-2 c = search needs
 
-compress-block-requires-2 : tie.Need-compress-block-requires-2
-compress-block-requires-2 c κs = search needs
+compress-requires-2 : tie.Need-compress-requires-2
+compress-requires-2 c κs = search needs
 
 slice-aggregate-store-2 : tie.Need-slice-aggregate-store-2
 slice-aggregate-store-2 c = search needs
@@ -51,11 +51,11 @@ slice-aggregate-store-2 c = search needs
 store-requires-2 : tie.Need-store-requires-2
 store-requires-2 c κs = search needs
 
-slice-aggregate-compress-block-3 : tie.Need-slice-aggregate-compress-block-3
-slice-aggregate-compress-block-3 c = search needs
+slice-aggregate-compress-3 : tie.Need-slice-aggregate-compress-3
+slice-aggregate-compress-3 c = search needs
 
-compress-block-requires-3 : tie.Need-compress-block-requires-3
-compress-block-requires-3 c κs = search needs
+compress-requires-3 : tie.Need-compress-requires-3
+compress-requires-3 c κs = search needs
 
 bytes-of-requires-2 : tie.Need-bytes-of-requires-2
 bytes-of-requires-2 c κs = search needs
@@ -66,29 +66,29 @@ returns-2 c =
     let l : length (s .block) ≡ 64 = search needs in
     finish-two s l _ _
     (c .before .before .before .before .before .before .before .before .before .before .before .before .length-bytes .ensures)
-    (c .before .before .before .before .before .before .before .before .fill .ensures) _ _ _ _
+    (c .before .before .before .before .before .before .before .before .in-block .ensures) _ _ _ _
     (c .before .before .before .before .before .before .before .if1 .left)
-    (c .before .before .before .before .before .compress-block2 .ensures) (c .before .before .before .store2 .ensures)
-    (c .before .compress-block3 .ensures) (c .bytes-of2 .ensures)
+    (c .before .before .before .before .before .compress2 .ensures) (c .before .before .before .store2 .ensures)
+    (c .before .compress3 .ensures) (c .bytes-of2 .ensures)
 
 pub finish-spec : {M : Type 1} → statement M
 finish-spec =
     tie.close
     (tie.spec
     length-bytes-requires
-    slice-aggregate-fill
-    fill-requires
+    slice-aggregate-in-block
+    in-block-requires
     slice-aggregate-store
     store-requires
-    slice-aggregate-compress-block
-    compress-block-requires
+    slice-aggregate-compress
+    compress-requires
     bytes-of-requires
     returns
-    slice-aggregate-compress-block-2
-    compress-block-requires-2
+    slice-aggregate-compress-2
+    compress-requires-2
     slice-aggregate-store-2
     store-requires-2
-    slice-aggregate-compress-block-3
-    compress-block-requires-3
+    slice-aggregate-compress-3
+    compress-requires-3
     bytes-of-requires-2
     returns-2)

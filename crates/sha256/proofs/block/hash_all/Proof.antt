@@ -24,17 +24,17 @@ sub-loop c = search needs
 add-end : tie.Need-add-end Inv-loop μ-loop
 add-end c = search needs
 
-sub-compress-block : tie.Need-sub-compress-block Inv-loop μ-loop
-sub-compress-block c = search needs
+sub-compress : tie.Need-sub-compress Inv-loop μ-loop
+sub-compress c = search needs
 
-part-compress-block-start : tie.Need-part-compress-block-start Inv-loop μ-loop
-part-compress-block-start c = search needs
+part-compress-start : tie.Need-part-compress-start Inv-loop μ-loop
+part-compress-start c = search needs
 
-part-compress-block-end : tie.Need-part-compress-block-end Inv-loop μ-loop
-part-compress-block-end c = search needs
+part-compress-end : tie.Need-part-compress-end Inv-loop μ-loop
+part-compress-end c = search needs
 
-compress-block-requires : tie.Need-compress-block-requires Inv-loop μ-loop
-compress-block-requires c κs = simp (length-take, length-drop) (omega arith)
+compress-requires : tie.Need-compress-requires Inv-loop μ-loop
+compress-requires c κs = simp (length-take, length-drop) (omega arith)
 
 loop-less : tie.Need-loop-less Inv-loop μ-loop
 loop-less c = search needs
@@ -44,7 +44,7 @@ loop-again c =
     let m = c .before .before .before .before .before .args .m .now in (
       omega arith,
       hash-step m _ (c .before .before .before .loop .i) _ (c .before .before .before .loop .inv .1) _
-          (c .compress-block .ensures) (omega arith),
+          (c .compress .ensures) (omega arith),
     )
 
 returns : tie.Need-returns Inv-loop μ-loop
@@ -60,10 +60,10 @@ hash-all-spec =
     loop-holds
     sub-loop
     add-end
-    sub-compress-block
-    part-compress-block-start
-    part-compress-block-end
-    compress-block-requires
+    sub-compress
+    part-compress-start
+    part-compress-end
+    compress-requires
     loop-less
     loop-again
     returns)

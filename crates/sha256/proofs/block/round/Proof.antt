@@ -1,7 +1,7 @@
 use Rattle.sha256.specs.Fips180.{round}
 use borrow.Author.Needs.{needs}
-use Rattle.sha256.proofs.block.round_of.Statement.{statement}
-use Rattle.sha256.proofs.block.round_of.Tie as tie
+use Rattle.sha256.proofs.block.round.Statement.{statement}
+use Rattle.sha256.proofs.block.round.Tie as tie
 
 t1-requires : tie.Need-t1-requires
 t1-requires c κs = search needs
@@ -19,5 +19,5 @@ returns : tie.Need-returns
 unfolding round
 returns c = cc
 
-pub round-of-spec : {M : Type 1} → statement M
-round-of-spec = tie.close (tie.spec t1-requires t2-requires add-requires add-requires-2 returns)
+pub round-spec : {M : Type 1} → statement M
+round-spec = tie.close (tie.spec t1-requires t2-requires add-requires add-requires-2 returns)

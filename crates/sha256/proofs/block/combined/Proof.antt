@@ -1,7 +1,7 @@
 use Rattle.sha256.specs.Fips180.{combined}
 use borrow.Author.Needs.{needs}
-use Rattle.sha256.proofs.block.combine.Statement.{statement}
-use Rattle.sha256.proofs.block.combine.Tie as tie
+use Rattle.sha256.proofs.block.combined.Statement.{statement}
+use Rattle.sha256.proofs.block.combined.Tie as tie
 
 array-read-add : tie.Need-array-read-add
 array-read-add c = search needs
@@ -55,8 +55,8 @@ returns : tie.Need-returns
 unfolding combined
 returns c = cc
 
-pub combine-spec : {M : Type 1} → statement M
-combine-spec =
+pub combined-spec : {M : Type 1} → statement M
+combined-spec =
     tie.close
     (tie.spec
     array-read-add

@@ -1,6 +1,6 @@
 use borrow.Author.Needs.{needs}
-use Rattle.sha256.proofs.block.mix.Statement.{statement}
-use Rattle.sha256.proofs.block.mix.Tie as tie
+use Rattle.sha256.proofs.block.mixed.Statement.{statement}
+use Rattle.sha256.proofs.block.mixed.Tie as tie
 
 small-sigma1-requires : tie.Need-small-sigma1-requires
 small-sigma1-requires c κs = search needs
@@ -20,8 +20,8 @@ add-requires-3 c κs = search needs
 returns : tie.Need-returns
 returns c = cc
 
-pub mix-spec : {M : Type 1} → statement M
-mix-spec =
+pub mixed-spec : {M : Type 1} → statement M
+mixed-spec =
     tie.close
     (tie.spec
     small-sigma1-requires

@@ -6,8 +6,8 @@ use Rattle.sha256.specs.Fips180.{schedule}
 use Rattle.sha256.proofs.Lists.{filled}
 use Rattle.sha256.proofs.Schedule.{schedule-step}
 use borrow.Author.Needs.{needs}
-use Rattle.sha256.proofs.block.schedule_of.Statement.{statement}
-use Rattle.sha256.proofs.block.schedule_of.Tie as tie
+use Rattle.sha256.proofs.block.schedule.Statement.{statement}
+use Rattle.sha256.proofs.block.schedule.Tie as tie
 
 abbrev Inv-loop : tie.InvT-loop
 Inv-loop block w₀ t₀ w t = (t ≤ 64) × (length w ≡ 64) × (take t w ≡ schedule block t)
@@ -46,8 +46,8 @@ returns c =
     filled (schedule (c .before .before .before .args .block .now)) _ _ 64 (omega arith) (omega arith)
     (c .before .loop .inv .1) (c .before .loop .inv .2)
 
-pub schedule-of-spec : {M : Type 1} → statement M
-schedule-of-spec =
+pub schedule-spec : {M : Type 1} → statement M
+schedule-spec =
     tie.close
     (tie.spec
     Inv-loop

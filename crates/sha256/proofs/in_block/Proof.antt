@@ -2,8 +2,8 @@ use mathlib.Core.Path.{_≡_}
 use lib.ListN.{length}
 use Rattle.sha256.proofs.Filling.{in-block}
 use borrow.Author.Needs.{needs}
-use Rattle.sha256.proofs.fill.Statement.{statement}
-use Rattle.sha256.proofs.fill.Tie as tie
+use Rattle.sha256.proofs.in_block.Statement.{statement}
+use Rattle.sha256.proofs.in_block.Tie as tie
 
 store-requires : tie.Need-store-requires
 store-requires c κs = search needs
@@ -21,5 +21,5 @@ returns c =
     in-block (a .block) (a .at) (a .part .now) _ _ l (c .before .before .before .pre) (c .before .store .ensures)
     (c .clear .ensures)
 
-pub fill-spec : {M : Type 1} → statement M
-fill-spec = tie.close (tie.spec store-requires add-clear clear-requires returns)
+pub in-block-spec : {M : Type 1} → statement M
+in-block-spec = tie.close (tie.spec store-requires add-clear clear-requires returns)

@@ -4,8 +4,8 @@ use native.Mathlib.Omega.{arith}
 use Rattle.sha256.specs.Fips180.{K, rounds}
 use Rattle.sha256.proofs.Rounds.{rounds-four}
 use borrow.Author.Needs.{needs}
-use Rattle.sha256.proofs.block.all_rounds.Statement.{statement}
-use Rattle.sha256.proofs.block.all_rounds.Tie as tie
+use Rattle.sha256.proofs.block.rounds.Statement.{statement}
+use Rattle.sha256.proofs.block.rounds.Tie as tie
 
 abbrev Inv-loop : tie.InvT-loop
 Inv-loop w k s₀ q₀ s q = (q ≤ 16) × (s ≡ rounds w 0 (4 * q) s₀)
@@ -36,8 +36,8 @@ loop-again c = (omega arith, rw rounds-four (cc))
 returns : tie.Need-returns Inv-loop μ-loop
 returns c = let e : c .before .loop .q ≡ 16 = omega arith in cc
 
-pub all-rounds-spec : {M : Type 1} → statement M
-all-rounds-spec =
+pub rounds-spec : {M : Type 1} → statement M
+rounds-spec =
     tie.close
     (tie.spec
     Inv-loop
