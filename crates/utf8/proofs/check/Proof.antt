@@ -1,0 +1,73 @@
+use Prim.Native.Nat.{_-_, _≤_}
+use mathlib.Core.Path.{_≡_, refl, sym, _∙_}
+use native.Mathlib.Omega.{arith}
+use borrow.Author.Needs.{needs}
+use lib.ListN.{length, drop}
+use Rattle.utf8.specs.Check.{check, checkFrom, wanted}
+use Rattle.utf8.proofs.Laws.{from-go, from-stop, from-end}
+use Rattle.utf8.proofs.check.Statement.{statement}
+use Rattle.utf8.proofs.check.Tie as tie
+
+abbrev Inv-loop : tie.InvT-loop
+Inv-loop s w₀ i₀ w i = (i ≤ length s) × (check s ≡ checkFrom (wanted w) i (drop i s))
+
+abbrev μ-loop : tie.MeasureT-loop
+μ-loop s w₀ i₀ w i = length s - i
+
+loop-holds : tie.Need-loop-holds Inv-loop μ-loop
+unfolding check wanted
+loop-holds c = (omega arith, refl)
+
+shared-slice-read-step : tie.Need-shared-slice-read-step Inv-loop μ-loop
+shared-slice-read-step c = omega arith
+
+step-requires : tie.Need-step-requires Inv-loop μ-loop
+step-requires c κs = search needs
+
+enum-known-n : tie.Need-enum-known-n Inv-loop μ-loop
+enum-known-n c = search needs
+
+enum-told : tie.Need-enum-told Inv-loop μ-loop
+enum-told c = search needs
+
+returns : tie.Need-returns Inv-loop μ-loop
+returns c =
+    let p = c .before .before in
+    let e = p .before .before .before .loop .inv .1 in
+    sym (e ∙ from-stop _ _ _ (omega arith) (p .step .ensures) (c .enum-told .given .1))
+
+add-i : tie.Need-add-i Inv-loop μ-loop
+add-i c = omega arith
+
+loop-less : tie.Need-loop-less Inv-loop μ-loop
+loop-less c = omega arith
+
+loop-again : tie.Need-loop-again Inv-loop μ-loop
+loop-again c =
+    let p = c .before .before .before in
+    let e = p .before .before .before .loop .inv .1 in
+    (omega arith, e ∙ from-go _ _ _ (omega arith) (p .step .ensures) (c .before .n .given .1))
+
+at-end-requires : tie.Need-at-end-requires Inv-loop μ-loop
+at-end-requires c κs = search needs
+
+returns-2 : tie.Need-returns-2 Inv-loop μ-loop
+returns-2 c = c .at-end .ensures ∙ sym (c .before .before .loop .inv .1 ∙ from-end _ _ _ (omega arith))
+
+pub check-spec : {M : Type 1} → statement M
+check-spec =
+    tie.close
+    (tie.spec
+    Inv-loop
+    μ-loop
+    loop-holds
+    shared-slice-read-step
+    step-requires
+    enum-known-n
+    enum-told
+    returns
+    add-i
+    loop-less
+    loop-again
+    at-end-requires
+    returns-2)

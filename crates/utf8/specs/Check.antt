@@ -1,0 +1,83 @@
+-- The check, octet by octet: at each place, the ranges of the octets that the character begun there still wants.
+use Prim.Native.Nat.{ℕ, _+_, _-_}
+use mathlib.Core.List.{List, [], _∷_}
+use mathlib.Core.Bool.{Bool, false, cond}
+use lib.ListN.{replicate}
+use lib.Dec.{leb, eqb}
+use Rattle.utf8.specs.declared.Utf8.{Utf8}
+use Rattle.utf8.specs.declared.Utf8.the-variants.{Valid, BadAt}
+use Rattle.utf8.specs.declared.Want.{Want}
+use Rattle.utf8.specs.declared.Next.{Next}
+use Rattle.utf8.specs.declared.Next.the-variants.{Go, Stop}
+
+infix 40 _to_
+infix 30 _then_
+-- a range of octets, as the ABNF's %x80-BF
+pub data Range : Type 0 where
+  _to_ : ℕ → ℕ → Range
+
+-- a row of the ABNF: the range of a character's first octet, and those of the octets after it
+pub data Row : Type 0 where
+  _then_ : Range → List Range → Row
+
+abbrev pub tail : Range
+tail = 0x80 to 0xBF
+
+-- UTF8-1, UTF8-2, UTF8-3, UTF8-4
+unfoldable pub utf8-char : List Row
+utf8-char =
+    (0x00 to 0x7F then []) ∷
+    (0xC2 to 0xDF then tail ∷ []) ∷
+    (0xE0 to 0xE0 then (0xA0 to 0xBF) ∷ tail ∷ []) ∷
+    (0xE1 to 0xEC then tail ∷ tail ∷ []) ∷
+    (0xED to 0xED then (0x80 to 0x9F) ∷ tail ∷ []) ∷
+    (0xEE to 0xEF then tail ∷ tail ∷ []) ∷
+    (0xF0 to 0xF0 then (0x90 to 0xBF) ∷ tail ∷ tail ∷ []) ∷
+    (0xF1 to 0xF3 then tail ∷ tail ∷ tail ∷ []) ∷
+    (0xF4 to 0xF4 then (0x80 to 0x8F) ∷ tail ∷ tail ∷ []) ∷
+    []
+
+-- the octet b is one of the range
+unfoldable pub within : Range → ℕ → Bool
+within (lo to hi) b = cond (leb lo b) (leb b hi) false
+
+-- after an octet: the ranges that its character still wants, or that the octet cannot stand there
+pub data After : Type 0 where
+  wants : List Range → After
+  never : After
+
+-- an octet that starts a character: the first row that has it
+unfoldable pub start : List Row → ℕ → After
+start [] b = never
+start ((r then rs) ∷ rows) b = cond (within r b) (wants rs) (start rows b)
+
+-- an octet where the ranges are wanted; with none wanted, it starts a character
+unfoldable pub step : List Range → ℕ → After
+step [] b = start utf8-char b
+step (r ∷ rs) b = cond (within r b) (wants rs) never
+
+-- the text ends
+unfoldable pub atEnd : List Range → ℕ → Utf8
+atEnd [] at = Valid
+atEnd (r ∷ rs) at = BadAt at
+
+abbrev pub onward : After → (List Range → Utf8) → Utf8 → Utf8
+onward (wants rs) f bad = f rs
+onward never f bad = bad
+
+-- the octets from the place at on, where the ranges rs are wanted
+unfoldable pub checkFrom : List Range → ℕ → List ℕ → Utf8
+checkFrom rs at [] = atEnd rs at
+checkFrom rs at (b ∷ bytes) = onward (step rs b) (λ next. checkFrom next (at + 1) bytes) (BadAt at)
+
+-- valid, or the place of the first octet that cannot continue valid text (the length where the text ends inside a character)
+unfoldable pub check : List ℕ → Utf8
+check bytes = checkFrom [] 0 bytes
+
+-- the ranges that a state of the code stands for: one for the next octet, tails behind it
+unfoldable pub wanted : Want → List Range
+wanted w = cond (eqb (w .left) 0) [] ((w .low to w .high) ∷ replicate (w .left - 1) tail)
+
+abbrev pub afterOf : Next → After
+afterOf (Go w) = wants (wanted w)
+afterOf Stop = never

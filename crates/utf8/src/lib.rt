@@ -1,0 +1,156 @@
+// Whether bytes are UTF-8 (RFC 3629), and where they stop being it.
+ghost use mathlib.Core.Path.{_≡_};
+ghost use Prim.Native.Nat.{_≤_, _<_};
+ghost use Rattle.utf8.specs.Check.{utf8-char, start, step, atEnd, check, wanted, afterOf};
+
+pub enum Utf8 {
+    Valid,
+    // The place of the first byte that cannot continue valid text; the length where the text ends inside a character.
+    BadAt(usize),
+}
+
+// What a character that was begun still wants: how many bytes, and the range of the next one. Those behind it are tails.
+struct Want {
+    left: u8,
+    low: u8,
+    high: u8,
+}
+
+enum Next {
+    Go(Want),
+    Stop,
+}
+
+// The first byte of a character of three bytes.
+fn start3(b: u8) -> Want
+    requires { ⌜ (0xE0 ≤ b) × (b ≤ 0xEF) ⌝ }
+    ensures { λ r. ⌜ afterOf (Next.Go r) ≡ start utf8-char b ⌝ }
+{
+    if b == 0xe0 {
+        return Want {
+            left: 2,
+            low: 0xa0,
+            high: 0xbf,
+        };
+    }
+    if b == 0xed {
+        return Want {
+            left: 2,
+            low: 0x80,
+            high: 0x9f,
+        };
+    }
+    Want {
+        left: 2,
+        low: 0x80,
+        high: 0xbf,
+    }
+}
+
+// The first byte of a character of four bytes, or a byte above all of those.
+fn start4(b: u8) -> Next
+    requires { ⌜ 0xF0 ≤ b ⌝ }
+    ensures { λ r. ⌜ afterOf r ≡ start utf8-char b ⌝ }
+{
+    if b == 0xf0 {
+        return Next::Go(Want {
+            left: 3,
+            low: 0x90,
+            high: 0xbf,
+        });
+    }
+    if b < 0xf4 {
+        return Next::Go(Want {
+            left: 3,
+            low: 0x80,
+            high: 0xbf,
+        });
+    }
+    if b == 0xf4 {
+        return Next::Go(Want {
+            left: 3,
+            low: 0x80,
+            high: 0x8f,
+        });
+    }
+    Next::Stop
+}
+
+// The first byte of a character.
+fn start(b: u8) -> Next
+    ensures { λ r. ⌜ afterOf r ≡ start utf8-char b ⌝ }
+{
+    if b < 0x80 {
+        return Next::Go(Want {
+            left: 0,
+            low: 0x80,
+            high: 0xbf,
+        });
+    }
+    if b < 0xc2 {
+        return Next::Stop;
+    }
+    if b < 0xe0 {
+        return Next::Go(Want {
+            left: 1,
+            low: 0x80,
+            high: 0xbf,
+        });
+    }
+    if b < 0xf0 {
+        return Next::Go(start3(b));
+    }
+    start4(b)
+}
+
+// One byte more.
+fn step(w: Want, b: u8) -> Next
+    ensures { λ r. ⌜ afterOf r ≡ step (wanted w) b ⌝ }
+{
+    if w.left == 0 {
+        return start(b);
+    }
+    if b < w.low {
+        return Next::Stop;
+    }
+    if w.high < b {
+        return Next::Stop;
+    }
+    Next::Go(Want {
+        left: w.left - 1,
+        low: 0x80,
+        high: 0xbf,
+    })
+}
+
+fn at_end(w: Want, at: usize) -> Utf8
+    ensures { λ r. ⌜ r ≡ atEnd (wanted w) at ⌝ }
+{
+    if w.left == 0 {
+        return Utf8::Valid;
+    }
+    Utf8::BadAt(at)
+}
+
+pub fn check(s: &[u8]) -> Utf8
+    ensures { λ r. ⌜ r ≡ check (now (s .entry)) ⌝ }
+{
+    let mut w = Want {
+        left: 0,
+        low: 0x80,
+        high: 0xbf,
+    };
+    let mut i = 0;
+    while i < s.len() {
+        match step(w, s[i]) {
+            Next::Go(n) => {
+                w = n;
+            }
+            Next::Stop => {
+                return Utf8::BadAt(i);
+            }
+        }
+        i += 1;
+    }
+    at_end(w, i)
+}
