@@ -83,7 +83,7 @@ const CONSTANTS: [u32; 64] = [
 ];
 
 // The working variables a to h.
-pub struct Work {
+struct Work {
     a: u32,
     b: u32,
     c: u32,
@@ -219,7 +219,7 @@ fn combined(v: [u32; 8], s: Work) -> [u32; 8]
 }
 
 // One block into a hash value.
-pub fn compress(v: [u32; 8], block: &[u8]) -> [u32; 8]
+pub(crate) fn compress(v: [u32; 8], block: &[u8]) -> [u32; 8]
     requires { ⌜ length (now block) ≡ 64 ⌝ }
     ensures { λ r. ⌜ r ≡ compress v (now (block .entry)) ⌝ }
 {
@@ -228,7 +228,7 @@ pub fn compress(v: [u32; 8], block: &[u8]) -> [u32; 8]
 }
 
 // The whole blocks of m into a hash value, each straight from m.
-pub fn hash_all(v: [u32; 8], m: &[u8]) -> [u32; 8]
+pub(crate) fn hash_all(v: [u32; 8], m: &[u8]) -> [u32; 8]
     ensures { λ r. ⌜ r ≡ hashAll v (now (m .entry)) ⌝ }
 {
     let mut h = v;
@@ -243,7 +243,7 @@ pub fn hash_all(v: [u32; 8], m: &[u8]) -> [u32; 8]
 }
 
 // The bytes of a hash value.
-pub fn bytes_of(v: [u32; 8]) -> [u8; 32]
+pub(crate) fn bytes_of(v: [u32; 8]) -> [u8; 32]
     ensures { λ r. ⌜ r ≡ bytesOf v ⌝ }
 {
     let mut out = [0u8; 32];
