@@ -1,3 +1,4 @@
+-- Up to i the block is its first bytes and zeros.
 use Prim.Native.Nat.{_-_, _≤_}
 use mathlib.Core.Path.{_≡_}
 use native.Mathlib.Omega.{arith}

@@ -1,3 +1,4 @@
+-- A fresh hash, all of the message, and the end.
 use Rattle.sha256.specs.Running.{after}
 use Rattle.sha256.proofs.Clients.{finished-after}
 use borrow.Author.Needs.{needs}

@@ -1,3 +1,4 @@
+-- The whole blocks are hashed, and the rest goes into a block of zeros.
 use Rattle.sha256.proofs.Waiting.{resting-parts}
 use borrow.Author.Needs.{needs}
 use Rattle.sha256.proofs.resting.Statement.{statement}

@@ -1,3 +1,4 @@
+-- After i stores the block is the old one with i bytes of the part in it.
 use Prim.Native.Nat.{_-_, _≤_}
 use mathlib.Core.Path.{_≡_}
 use native.Mathlib.Omega.{arith}

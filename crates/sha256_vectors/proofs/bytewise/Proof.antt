@@ -1,3 +1,4 @@
+-- After i bytes the state is that after the first i bytes.
 use Prim.Native.Nat.{_+_, _-_, _≤_}
 use mathlib.Core.Path.{_≡_, _∙_}
 use native.Mathlib.Omega.{arith}

@@ -1,3 +1,4 @@
+-- Two parts of a message are absorbed one after the other.
 use Rattle.sha256_vectors.proofs.Parts.{cut-after}
 use borrow.Author.Needs.{needs}
 use Rattle.sha256_vectors.proofs.cut.Statement.{statement}

@@ -1,3 +1,4 @@
+-- The length rises to that of the message.
 use Prim.Native.Nat.{_-_, _≤_}
 use native.Mathlib.Omega.{arith}
 use lib.ListN.{length}

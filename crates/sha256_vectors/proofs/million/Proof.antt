@@ -1,3 +1,4 @@
+-- The count falls to zero.
 use Prim.Native.Nat.{_≤_}
 use native.Mathlib.Omega.{arith}
 use borrow.Author.Needs.{needs}

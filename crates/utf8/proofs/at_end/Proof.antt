@@ -1,3 +1,4 @@
+-- The text ends well where no octet is wanted.
 use mathlib.Core.Path.{sym}
 use Rattle.utf8.proofs.Laws.{end-valid, end-inside}
 use Rattle.utf8.proofs.at_end.Statement.{statement}

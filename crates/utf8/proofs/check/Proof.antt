@@ -1,3 +1,4 @@
+-- The check from i on, with what is wanted there, is the whole check.
 use Prim.Native.Nat.{_-_, _≤_}
 use mathlib.Core.Path.{_≡_, refl, sym, _∙_}
 use native.Mathlib.Omega.{arith}

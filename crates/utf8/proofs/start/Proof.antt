@@ -1,3 +1,4 @@
+-- A row of the table has the byte, or it stands in a gap.
 use mathlib.Core.Path.{sym}
 use native.Mathlib.Omega.{arith}
 use borrow.Author.Needs.{needs}

@@ -1,3 +1,4 @@
+-- A row of three octets has the byte.
 use mathlib.Core.Path.{sym}
 use native.Mathlib.Omega.{arith}
 use Rattle.utf8.specs.Check.{utf8-char, wanted}

@@ -1,3 +1,4 @@
+-- A row of four octets has the byte, or none has.
 use mathlib.Core.Path.{sym}
 use native.Mathlib.Omega.{arith}
 use Rattle.utf8.specs.Check.{utf8-char, wanted}

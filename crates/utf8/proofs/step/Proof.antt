@@ -1,3 +1,4 @@
+-- No octet is wanted, or the byte is below, above or in the range that is.
 use mathlib.Core.Path.{sym, _∙_}
 use borrow.Author.Needs.{needs}
 use Rattle.utf8.proofs.Laws.{step-start, step-low, step-high, step-in}

@@ -1,3 +1,4 @@
+-- The place rises to the length.
 use Prim.Native.Nat.{_-_, _≤_}
 use borrow.Author.Needs.{needs}
 use lib.ListN.{length}

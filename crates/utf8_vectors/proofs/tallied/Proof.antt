@@ -1,3 +1,4 @@
+-- The count rises to the total.
 use Prim.Native.Nat.{_-_, _≤_}
 use borrow.Author.Needs.{needs}
 use Rattle.utf8_vectors.proofs.tallied.Statement.{statement}

@@ -1,3 +1,4 @@
+-- Four bytes are twice two.
 use native.Mathlib.Omega.{arith}
 use Rattle.wire.proofs.Numbers.{part-join}
 use borrow.Author.Needs.{needs}

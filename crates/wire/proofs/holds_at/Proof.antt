@@ -1,3 +1,4 @@
+-- Where there is room the part is compared with the string, and nothing else is answered true.
 use mathlib.Core.Path.{_∙_}
 use native.Mathlib.Omega.{arith}
 use Rattle.wire.proofs.Spans.{inside-true, inside-false}

@@ -1,3 +1,4 @@
+-- The test by subtraction is the test of the sum.
 use mathlib.Core.Path.{sym}
 use native.Mathlib.Omega.{arith}
 use Rattle.wire.proofs.Spans.{inside-out, inside-rest}

@@ -1,3 +1,4 @@
+-- The number of one byte is the byte.
 use mathlib.Core.Path.{_∙_}
 use native.Mathlib.Omega.{arith}
 use Rattle.wire.proofs.Numbers.{part-one}

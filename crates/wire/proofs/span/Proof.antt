@@ -1,3 +1,4 @@
+-- The part is the span where it is inside.
 use native.Mathlib.Omega.{arith}
 use Rattle.wire.proofs.Spans.{inside-true, inside-false, span-lent, span-out}
 use borrow.Author.Needs.{needs}

@@ -1,3 +1,4 @@
+-- The end is there where the span is inside.
 use native.Mathlib.Omega.{arith}
 use Rattle.wire.proofs.Spans.{inside-true, inside-false, end-in, end-out}
 use borrow.Author.Needs.{needs}

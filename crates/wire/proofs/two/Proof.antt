@@ -1,3 +1,4 @@
+-- Two bytes are one byte and one more.
 use native.Mathlib.Omega.{arith}
 use Rattle.wire.proofs.Numbers.{part-join}
 use borrow.Author.Needs.{needs}

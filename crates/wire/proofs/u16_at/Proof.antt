@@ -1,3 +1,5 @@
+-- The number is there where its bytes are inside.
+use native.Mathlib.Omega.{arith}
 use Rattle.wire.proofs.Spans.{inside-true, inside-false, number-in, number-out}
 use borrow.Author.Needs.{needs}
 use Rattle.wire.proofs.u16_at.Statement.{statement}
@@ -7,15 +9,15 @@ inside-requires : tie.Need-inside-requires
 inside-requires c κs = search needs
 
 two-requires : tie.Need-two-requires
-two-requires c κs = inside-true _ _ _ (c .before .inside .ensures) (c .if1 .taken)
+two-requires c κs = omega (arith, inside-true _ _ _ (c .before .inside .ensures) (c .if1 .taken))
 
 returns : tie.Need-returns
 returns c =
-    number-in _ _ _ (inside-true _ _ _ (c .before .before .inside .ensures) (c .before .if1 .taken))
+    number-in _ _ _ (omega (arith, inside-true _ _ _ (c .before .before .inside .ensures) (c .before .if1 .taken)))
     (c .two .ensures .0)
 
 returns-2 : tie.Need-returns-2
-returns-2 c = number-out _ _ _ (inside-false _ _ _ (c .before .inside .ensures) (c .if1 .left))
+returns-2 c = number-out _ _ _ (omega (arith, inside-false _ _ _ (c .before .inside .ensures) (c .if1 .left)))
 
 pub u16-at-spec : {M : Type 1} → statement M
 u16-at-spec = tie.close (tie.spec inside-requires two-requires returns returns-2)

@@ -1,3 +1,4 @@
+-- No byte waits, the part does not fill the block, or it does.
 use mathlib.Core.Path.{_≡_, refl}
 use lib.ListN.{length}
 use Rattle.sha256.proofs.Absorbing.{absorb-aligned, absorb-within, absorb-across}

@@ -1,3 +1,4 @@
+-- The state is written out.
 use mathlib.Core.Path.{refl}
 use Rattle.sha256.specs.Fips180.{H0}
 use Rattle.sha256.specs.Running.{inBlock, fresh}

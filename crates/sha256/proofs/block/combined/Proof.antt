@@ -1,3 +1,4 @@
+-- Eight sums, word by word.
 use Rattle.sha256.specs.Fips180.{combined}
 use borrow.Author.Needs.{needs}
 use Rattle.sha256.proofs.block.combined.Statement.{statement}

@@ -1,3 +1,4 @@
+-- The schedule, the rounds and the sums, as the definition has them.
 use Rattle.sha256.specs.Fips180.{compress}
 use borrow.Author.Needs.{needs}
 use Rattle.sha256.proofs.block.compress.Statement.{statement}

@@ -1,3 +1,4 @@
+-- Four rounds, one after the other.
 use Rattle.sha256.proofs.Rounds.{four}
 use borrow.Author.Needs.{needs}
 use Rattle.sha256.proofs.block.four_rounds.Statement.{statement}

@@ -1,3 +1,4 @@
+-- What is left to hash from i on, from the value so far, is the whole.
 use Prim.Native.Nat.{_-_, _/_, _≤_}
 use mathlib.Core.Path.{_≡_}
 use native.Mathlib.Nat.{sub-zero}

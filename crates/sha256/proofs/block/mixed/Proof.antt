@@ -1,3 +1,4 @@
+-- The calls are the sums of the definition.
 use borrow.Author.Needs.{needs}
 use Rattle.sha256.proofs.block.mixed.Statement.{statement}
 use Rattle.sha256.proofs.block.mixed.Tie as tie

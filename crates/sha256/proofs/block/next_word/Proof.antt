@@ -1,3 +1,4 @@
+-- The first 16 words are the block's, each later one is mixed from four before it.
 use borrow.Author.Tests.{le-ltb, lt-ltb}
 use Rattle.sha256.specs.Fips180.{nextWord}
 use borrow.Author.Needs.{needs}

@@ -1,3 +1,4 @@
+-- T1 and T2 are made once, and the working variables move on.
 use Rattle.sha256.specs.Fips180.{round}
 use borrow.Author.Needs.{needs}
 use Rattle.sha256.proofs.block.round.Statement.{statement}

@@ -1,3 +1,4 @@
+-- The words are filled in from the front; word t looks only at those before it.
 use Prim.Native.Nat.{_-_, _≤_}
 use mathlib.Core.Path.{_≡_, refl}
 use native.Mathlib.Omega.{arith}
