@@ -54,10 +54,11 @@ fn eight(s: &[u8], at: usize) -> u64
 pub fn inside(s: &[u8], start: usize, n: usize) -> bool
     ensures { λ r. ⌜ r ≡ inside (now (s .entry)) start n ⌝ }
 {
-    if s.len() < start {
+    let len = s.len();
+    if len < start {
         return false;
     }
-    n <= s.len() - start
+    n <= len - start
 }
 
 // Where the span of n bytes from start on ends.
