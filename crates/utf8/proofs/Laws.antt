@@ -16,7 +16,7 @@ use Rattle.utf8.specs.declared.Next.{Next}
 use Rattle.utf8.specs.declared.Next.the-variants.{Go, Stop}
 use Rattle.utf8.specs.Rfc3629.{Octet}
 use Rattle.utf8.specs.Check.{Range, Row, _to_, _then_, wants, never, tail, utf8-char}
-use Rattle.utf8.specs.Check.{within, start, step, atEnd, checkFrom, wanted, afterOf}
+use Rattle.utf8.specs.Check.{within, start, step, atEnd, checkFrom, tails, wanted, afterOf}
 
 -- an octet and a range
 module _ (lo hi b : ℕ) where
@@ -101,9 +101,6 @@ start-tails2 b o h = elim (decLt b 0xED) [
 ]
 
 -- a state of the code, and what it wants
-abbrev pub tails : ℕ → Want
-tails n = record { left = n; low = 0x80; high = 0xBF }
-
 wanted-tails : (n : ℕ) → replicate n tail ≡ wanted (tails n)
 unfolding wanted
 wanted-tails zero = refl

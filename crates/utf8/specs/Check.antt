@@ -74,6 +74,10 @@ checkFrom rs at (b ∷ bytes) = onward (step rs b) (λ next. checkFrom next (at 
 unfoldable pub check : List ℕ → Utf8
 check bytes = checkFrom [] 0 bytes
 
+-- a state of the code in which n tails are wanted; with none, a character starts
+abbrev pub tails : ℕ → Want
+tails n = record { left = n; low = 0x80; high = 0xBF }
+
 -- the ranges that a state of the code stands for: one for the next octet, tails behind it
 unfoldable pub wanted : Want → List Range
 wanted w = cond (eqb (w .left) 0) [] ((w .low to w .high) ∷ replicate (w .left - 1) tail)

@@ -1,7 +1,7 @@
 // Whether bytes are UTF-8 (RFC 3629), and where they stop being it.
 ghost use mathlib.Core.Path.{_≡_};
-ghost use Prim.Native.Nat.{_≤_, _<_};
-ghost use Rattle.utf8.specs.Check.{utf8-char, start, step, atEnd, check, wanted, afterOf};
+ghost use Prim.Native.Nat.{_≤_};
+ghost use Rattle.utf8.specs.Check.{utf8-char, start, step, atEnd, check, tails, wanted, afterOf};
 
 pub enum Utf8 {
     Valid,
@@ -19,6 +19,17 @@ struct Want {
 enum Next {
     Go(Want),
     Stop,
+}
+
+// So many tails.
+fn tails(left: u8) -> Want
+    ensures { λ r. ⌜ r ≡ tails left ⌝ }
+{
+    Want {
+        left,
+        low: 0x80,
+        high: 0xbf,
+    }
 }
 
 // The first byte of a character of three bytes.
@@ -40,11 +51,7 @@ fn start3(b: u8) -> Want
             high: 0x9f,
         };
     }
-    Want {
-        left: 2,
-        low: 0x80,
-        high: 0xbf,
-    }
+    tails(2)
 }
 
 // The first byte of a character of four bytes, or a byte above all of those.
@@ -60,11 +67,7 @@ fn start4(b: u8) -> Next
         });
     }
     if b < 0xf4 {
-        return Next::Go(Want {
-            left: 3,
-            low: 0x80,
-            high: 0xbf,
-        });
+        return Next::Go(tails(3));
     }
     if b == 0xf4 {
         return Next::Go(Want {
@@ -81,21 +84,13 @@ fn start(b: u8) -> Next
     ensures { λ r. ⌜ afterOf r ≡ start utf8-char b ⌝ }
 {
     if b < 0x80 {
-        return Next::Go(Want {
-            left: 0,
-            low: 0x80,
-            high: 0xbf,
-        });
+        return Next::Go(tails(0));
     }
     if b < 0xc2 {
         return Next::Stop;
     }
     if b < 0xe0 {
-        return Next::Go(Want {
-            left: 1,
-            low: 0x80,
-            high: 0xbf,
-        });
+        return Next::Go(tails(1));
     }
     if b < 0xf0 {
         return Next::Go(start3(b));
@@ -116,11 +111,7 @@ fn step(w: Want, b: u8) -> Next
     if w.high < b {
         return Next::Stop;
     }
-    Next::Go(Want {
-        left: w.left - 1,
-        low: 0x80,
-        high: 0xbf,
-    })
+    Next::Go(tails(w.left - 1))
 }
 
 fn at_end(w: Want, at: usize) -> Utf8
@@ -135,11 +126,7 @@ fn at_end(w: Want, at: usize) -> Utf8
 pub fn check(s: &[u8]) -> Utf8
     ensures { λ r. ⌜ r ≡ check (now (s .entry)) ⌝ }
 {
-    let mut w = Want {
-        left: 0,
-        low: 0x80,
-        high: 0xbf,
-    };
+    let mut w = tails(0);
     let mut i = 0;
     while i < s.len() {
         match step(w, s[i]) {

@@ -1,11 +1,11 @@
 -- The check from i on, with what is wanted there, is the whole check.
 use Prim.Native.Nat.{_-_, _≤_}
-use mathlib.Core.Path.{_≡_, refl, sym, _∙_}
+use mathlib.Core.Path.{_≡_, sym, _∙_}
 use native.Mathlib.Omega.{arith}
-use borrow.Author.Needs.{needs}
 use lib.ListN.{length, drop}
 use Rattle.utf8.specs.Check.{check, checkFrom, wanted}
 use Rattle.utf8.proofs.Laws.{from-go, from-stop, from-end}
+use borrow.Author.Needs.{needs}
 use Rattle.utf8.proofs.check.Statement.{statement}
 use Rattle.utf8.proofs.check.Tie as tie
 
@@ -15,12 +15,15 @@ Inv-loop s w₀ i₀ w i = (i ≤ length s) × (check s ≡ checkFrom (wanted w)
 abbrev μ-loop : tie.MeasureT-loop
 μ-loop s w₀ i₀ w i = length s - i
 
+tails-requires : tie.Need-tails-requires Inv-loop μ-loop
+tails-requires c κs = search needs
+
 loop-holds : tie.Need-loop-holds Inv-loop μ-loop
 unfolding check wanted
-loop-holds c = (omega arith, refl)
+loop-holds c = (omega arith, rw (c .tails .ensures))
 
 shared-slice-read-step : tie.Need-shared-slice-read-step Inv-loop μ-loop
-shared-slice-read-step c = omega arith
+shared-slice-read-step c = search needs
 
 step-requires : tie.Need-step-requires Inv-loop μ-loop
 step-requires c κs = search needs
@@ -33,21 +36,21 @@ enum-told c = search needs
 
 returns : tie.Need-returns Inv-loop μ-loop
 returns c =
-    let p = c .before .before in
-    let e = p .before .before .before .loop .inv .1 in
-    sym (e ∙ from-stop _ _ _ (omega arith) (p .step .ensures) (c .enum-told .given .1))
+    sym
+    (c .before .before .before .before .before .loop .inv .1 ∙ from-stop _ _ _ (omega arith) (c .before .before .step .ensures) (c .enum-told .given .1))
 
 add-i : tie.Need-add-i Inv-loop μ-loop
-add-i c = omega arith
+add-i c = search needs
 
 loop-less : tie.Need-loop-less Inv-loop μ-loop
-loop-less c = omega arith
+loop-less c = search needs
 
 loop-again : tie.Need-loop-again Inv-loop μ-loop
-loop-again c =
-    let p = c .before .before .before in
-    let e = p .before .before .before .loop .inv .1 in
-    (omega arith, e ∙ from-go _ _ _ (omega arith) (p .step .ensures) (c .before .n .given .1))
+loop-again c = (
+  omega arith,
+  c .before .before .before .before .before .before .loop .inv .1 ∙ from-go _ _ _ (omega arith)
+      (c .before .before .before .step .ensures) (c .before .n .given .1),
+)
 
 at-end-requires : tie.Need-at-end-requires Inv-loop μ-loop
 at-end-requires c κs = search needs
@@ -61,6 +64,7 @@ check-spec =
     (tie.spec
     Inv-loop
     μ-loop
+    tails-requires
     loop-holds
     shared-slice-read-step
     step-requires

@@ -1,7 +1,7 @@
 -- No octet is wanted, or the byte is below, above or in the range that is.
 use mathlib.Core.Path.{sym, _∙_}
-use borrow.Author.Needs.{needs}
 use Rattle.utf8.proofs.Laws.{step-start, step-low, step-high, step-in}
+use borrow.Author.Needs.{needs}
 use Rattle.utf8.proofs.step.Statement.{statement}
 use Rattle.utf8.proofs.step.Tie as tie
 
@@ -17,13 +17,18 @@ returns-2 c = sym (step-low _ _ (c .before .before .if1 .left) (c .if2 .taken))
 returns-3 : tie.Need-returns-3
 returns-3 c = sym (step-high _ _ (c .before .before .before .before .if1 .left) (c .if3 .taken))
 
-sub-t4 : tie.Need-sub-t4
-sub-t4 c = search needs
+sub-tails : tie.Need-sub-tails
+sub-tails c = search needs
+
+tails-requires : tie.Need-tails-requires
+tails-requires c κs = search needs
 
 returns-4 : tie.Need-returns-4
 returns-4 c =
-    let p = c .before .before .before in
-    sym (step-in _ _ (p .before .before .if1 .left) (p .if2 .left, c .before .if3 .left))
+    rw (c .tails .ensures)
+    (sym (step-in _ _ (c .before .before .before .before .before .before .if1 .left) (c .before .before .before .before .if2 .left, c .before .before .if3 .left)))
 
 pub step-spec : {M : Type 1} → statement M
-step-spec = tie.close (tie.spec start-requires returns returns-2 returns-3 sub-t4 returns-4)
+step-spec =
+    tie.close
+    (tie.spec start-requires returns returns-2 returns-3 sub-tails tails-requires returns-4)
