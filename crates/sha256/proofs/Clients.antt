@@ -7,15 +7,15 @@ use native.Mathlib.Omega.{arith}
 use lib.ListN.{length, drop, length-append}
 use Rattle.sha256.specs.declared.Running.{Running}
 use Rattle.sha256.specs.Fips180.{H0, zeros, padding, padded, hash, hashAll, bytesOf, sha256}
-use Rattle.sha256.specs.Running.{pending, inBlock, resting, fresh, absorbed, absorbedAll, after, finished}
+use Rattle.sha256.specs.Running.{pending, inBlock, buffered, fresh, absorbed, absorbedAll, after, finished}
 use Rattle.sha256.specs.Running.{PartsJoin, FinishHashes}
 use Rattle.sha256.proofs.Blocks.{hash-split}
-use Rattle.sha256.proofs.Waiting.{resting-split, pending-rest, pending-length}
+use Rattle.sha256.proofs.Buffering.{buffered-split, pending-buffered, pending-length}
 
 -- absorbing two parts one after the other is absorbing their join, from any state
 pub absorbed-join : (s : Running) (xs ys : List ℕ) → length (s .block) ≡ 64
     → absorbed (absorbed s xs) ys ≡ absorbed s (xs ++ ys)
-unfolding absorbed resting
+unfolding absorbed buffered
 absorbed-join s xs ys l =
     let m : List ℕ = pending s ++ xs in
     let t : ℕ = (s .total + length xs) % 2 ^ 64 in
@@ -24,10 +24,10 @@ absorbed-join s xs ys l =
     = length-append (pending s) xs ∙ ap (λ (k : ℕ). k + length xs) (pending-length s l)
     in
     let e : u ≡ (s .total + length (xs ++ ys)) % 2 ^ 64 = omega (arith, length-append xs ys) in
-    ap (λ (p : List ℕ). resting (hashAll (s .h) m) (p ++ ys) u) (pending-rest (s .h) m t (omega arith))
-    ∙ resting-split (length m / 64) (s .h) m ys (omega arith) u
-    ∙ ap (λ (x : List ℕ). resting (s .h) x u) (append-assoc (pending s) xs ys)
-    ∙ ap (resting (s .h) (pending s ++ (xs ++ ys))) e
+    ap (λ (p : List ℕ). buffered (hashAll (s .h) m) (p ++ ys) u) (pending-buffered (s .h) m t (omega arith))
+    ∙ buffered-split (length m / 64) (s .h) m ys (omega arith) u
+    ∙ ap (λ (x : List ℕ). buffered (s .h) x u) (append-assoc (pending s) xs ys)
+    ∙ ap (buffered (s .h) (pending s ++ (xs ++ ys))) e
 
 pub absorbed-after : (xs ys : List ℕ) → absorbed (after xs) ys ≡ after (xs ++ ys)
 unfolding after fresh inBlock
@@ -35,7 +35,7 @@ absorbed-after xs ys = absorbed-join fresh xs ys refl
 
 -- a fresh hash has absorbed nothing
 pub fresh-after : fresh ≡ after []
-unfolding after absorbed resting hash fresh pending inBlock
+unfolding after absorbed buffered hash fresh pending inBlock
 fresh-after = refl
 
 pub parts-join : PartsJoin
@@ -46,7 +46,7 @@ parts-join m (p ∷ ps) =
     ∙ parts-join (m ++ p) ps
     ∙ ap after (append-assoc m p (flatten ps))
 
-after-is : (m : List ℕ) → after m ≡ resting H0 m (length m % 2 ^ 64)
+after-is : (m : List ℕ) → after m ≡ buffered H0 m (length m % 2 ^ 64)
 unfolding after absorbed fresh pending
 after-is m = rw (zero-add (length m))
 
@@ -59,12 +59,12 @@ padding-wraps n =
     rw (z, l)
 
 pub finished-after : FinishHashes
-unfolding finished sha256 padded resting
+unfolding finished sha256 padded buffered
 finished-after m =
     let n : ℕ = length m % 2 ^ 64 in
     let v : List ℕ = hashAll H0 m in
     ap finished (after-is m)
-    ∙ ap (λ (x : List ℕ). bytesOf (hashAll v (x ++ padding n))) (pending-rest H0 m n (omega arith))
+    ∙ ap (λ (x : List ℕ). bytesOf (hashAll v (x ++ padding n))) (pending-buffered H0 m n (omega arith))
     ∙ ap (λ (x : List ℕ). bytesOf (hashAll v (drop (length m / 64 * 64) m ++ x))) (padding-wraps (length m))
     ∙ ap bytesOf (hash-split (length m / 64) H0 m (padding (length m)) (omega arith))
 

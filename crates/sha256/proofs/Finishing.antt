@@ -1,4 +1,4 @@
--- The cases of finish: the count of bits fits behind what waits, or takes a block of its own.
+-- The cases of finish: the count of bits fits behind what is buffered, or takes a block of its own.
 use Prim.Native.Nat.{ℕ, _+_, _-_, _*_, _%_, _^_, _≤_, _<_}
 use mathlib.Core.Path.{_≡_, sym, ap, _∙_}
 use mathlib.Core.List.{List, [], _∷_, _++_, append-assoc}
@@ -12,7 +12,7 @@ use Rattle.sha256.proofs.Blocks.{hash-first, hash-one}
 use Rattle.sha256.proofs.Filling.{block-length, paste-last}
 use Rattle.sha256.proofs.Padding.{length-of-length}
 
--- what waits, with the first byte of padding behind it
+-- what is buffered, with the first byte of padding behind it
 begun : Running → List ℕ
 begun s = take (s .total % 64) (s .block) ++ (0x80 ∷ [])
 

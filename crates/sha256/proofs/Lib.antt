@@ -3,7 +3,7 @@ pub mod Schedule
 pub mod Rounds
 pub mod Blocks
 pub mod Filling
-pub mod Waiting
+pub mod Buffering
 pub mod Absorbing
 pub mod Padding
 pub mod Finishing

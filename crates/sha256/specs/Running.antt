@@ -6,7 +6,7 @@ use lib.ListN.{length, take, drop, replicate}
 use Rattle.sha256.specs.declared.Running.{Running}
 use Rattle.sha256.specs.Fips180.{H0, padding, hashAll, bytesOf, sha256}
 
--- the bytes since the last whole block
+-- the bytes that are buffered: those since the last whole block
 unfoldable pub pending : Running → List ℕ
 pending s = take (s .total % 64) (s .block)
 
@@ -14,9 +14,9 @@ pending s = take (s .total % 64) (s .block)
 unfoldable pub inBlock : List ℕ → List ℕ
 inBlock xs = xs ++ replicate (64 - length xs) 0
 
--- the whole blocks of m are hashed, and the bytes behind them wait
-unfoldable pub resting : List ℕ → List ℕ → ℕ → Running
-resting v m total = record { h = hashAll v m; block = inBlock (drop (length m / 64 * 64) m); total = total }
+-- the whole blocks of m are hashed, and the bytes behind them are buffered
+unfoldable pub buffered : List ℕ → List ℕ → ℕ → Running
+buffered v m total = record { h = hashAll v m; block = inBlock (drop (length m / 64 * 64) m); total = total }
 
 -- at the start
 unfoldable pub fresh : Running
@@ -24,7 +24,7 @@ fresh = record { h = H0; block = inBlock []; total = 0 }
 
 -- after a part more. The count of bytes wraps at 2 ^ 64, past every message that the standard allows
 unfoldable pub absorbed : Running → List ℕ → Running
-absorbed s part = resting (s .h) (pending s ++ part) ((s .total + length part) % 2 ^ 64)
+absorbed s part = buffered (s .h) (pending s ++ part) ((s .total + length part) % 2 ^ 64)
 
 -- after parts, one after the other
 unfoldable pub absorbedAll : Running → List (List ℕ) → Running
@@ -35,7 +35,7 @@ absorbedAll s (part ∷ parts) = absorbedAll (absorbed s part) parts
 unfoldable pub after : List ℕ → Running
 after m = absorbed fresh m
 
--- the digest: the padding goes behind what waits
+-- the digest: the padding goes behind what is buffered
 unfoldable pub finished : Running → List ℕ
 finished s = bytesOf (hashAll (s .h) (pending s ++ padding (s .total)))
 

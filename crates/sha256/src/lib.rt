@@ -5,7 +5,7 @@ ghost use Prim.Native.Nat.{_+_, _-_, _≤_};
 ghost use lib.ListN.{length, take, replicate};
 ghost use lib.Seq.{paste};
 ghost use Rattle.sha256.specs.Fips180.{lengthBytes, sha256};
-ghost use Rattle.sha256.specs.Running.{inBlock, resting, fresh, absorbed, finished};
+ghost use Rattle.sha256.specs.Running.{inBlock, buffered, fresh, absorbed, finished};
 
 mod block;
 mod word;
@@ -67,9 +67,9 @@ fn length_bytes(bits: u64) -> [u8; 8]
     out
 }
 
-// The whole blocks of m are hashed, and the bytes behind them wait.
-fn resting(v: [u32; 8], m: &[u8], total: u64) -> Running
-    ensures { λ r. ⌜ r ≡ resting v (now (m .entry)) total ⌝ }
+// The whole blocks of m are hashed, and the bytes behind them are buffered.
+fn buffered(v: [u32; 8], m: &[u8], total: u64) -> Running
+    ensures { λ r. ⌜ r ≡ buffered v (now (m .entry)) total ⌝ }
 {
     let h = block::hash_all(v, m);
     let n = m.len() / 64 * 64;
@@ -105,7 +105,7 @@ impl Running {
         let total = std::num::wrapping_add_u64(self.total, part.len() as u64);
         let v = self.h;
         if at == 0 {
-            return resting(v, part, total);
+            return buffered(v, part, total);
         }
         let old = self.block;
         let need = 64 - at;
@@ -117,7 +117,7 @@ impl Running {
             };
         }
         let full = in_block(old, at, &part[0..need]);
-        resting(block::compress(v, &full), &part[need..], total)
+        buffered(block::compress(v, &full), &part[need..], total)
     }
 
     // The digest, after the padding.

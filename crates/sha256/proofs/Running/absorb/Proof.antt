@@ -1,4 +1,4 @@
--- No byte waits, the part does not fill the block, or it does.
+-- Nothing is buffered, the part does not fill the block, or it does.
 use mathlib.Core.Path.{_≡_, refl}
 use lib.ListN.{length}
 use Rattle.sha256.proofs.Absorbing.{absorb-aligned, absorb-within, absorb-across}
@@ -9,14 +9,14 @@ use Rattle.sha256.proofs.Running.absorb.Tie as tie
 wrapping-add-u64-requires : tie.Need-wrapping-add-u64-requires
 wrapping-add-u64-requires c κs = search needs
 
-resting-requires : tie.Need-resting-requires
-resting-requires c κs = search needs
+buffered-requires : tie.Need-buffered-requires
+buffered-requires c κs = search needs
 
 returns : tie.Need-returns
 returns c =
     let a = c .before .before .before .before .before .before .args in
     absorb-aligned (a .self) (a .part .now) _ (c .before .before .before .wrapping-add-u64 .ensures) _
-    (c .before .if1 .taken) (c .resting .ensures)
+    (c .before .if1 .taken) (c .buffered .ensures)
 
 sub-need : tie.Need-sub-need
 sub-need c = search needs
@@ -49,17 +49,17 @@ slice-aggregate-compress c = search needs
 compress-requires : tie.Need-compress-requires
 compress-requires c κs = search needs
 
-sub-resting : tie.Need-sub-resting
-sub-resting c = search needs
+sub-buffered : tie.Need-sub-buffered
+sub-buffered c = search needs
 
-part-resting-start : tie.Need-part-resting-start
-part-resting-start c = search needs
+part-buffered-start : tie.Need-part-buffered-start
+part-buffered-start c = search needs
 
-part-resting-end : tie.Need-part-resting-end
-part-resting-end c = search needs
+part-buffered-end : tie.Need-part-buffered-end
+part-buffered-end c = search needs
 
-resting-requires-2 : tie.Need-resting-requires-2
-resting-requires-2 c κs = search needs
+buffered-requires-2 : tie.Need-buffered-requires-2
+buffered-requires-2 c κs = search needs
 
 returns-3 : tie.Need-returns-3
 returns-3 c =
@@ -69,14 +69,14 @@ returns-3 c =
     (c .before .before .before .before .before .before .before .before .before .before .wrapping-add-u64 .ensures) _ _ _
     _ l refl (c .before .before .before .before .before .before .if2 .left)
     (c .before .before .before .before .in-block2 .ensures) (c .before .before .compress .ensures)
-    (c .resting2 .ensures)
+    (c .buffered2 .ensures)
 
 pub absorb-spec : {M : Type 1} → statement M
 absorb-spec =
     tie.close
     (tie.spec
     wrapping-add-u64-requires
-    resting-requires
+    buffered-requires
     returns
     sub-need
     in-block-requires
@@ -87,8 +87,8 @@ absorb-spec =
     in-block-requires-2
     slice-aggregate-compress
     compress-requires
-    sub-resting
-    part-resting-start
-    part-resting-end
-    resting-requires-2
+    sub-buffered
+    part-buffered-start
+    part-buffered-end
+    buffered-requires-2
     returns-3)

@@ -1,8 +1,8 @@
 -- The whole blocks are hashed, and the rest goes into a block of zeros.
-use Rattle.sha256.proofs.Waiting.{resting-parts}
+use Rattle.sha256.proofs.Buffering.{buffered-parts}
 use borrow.Author.Needs.{needs}
-use Rattle.sha256.proofs.resting.Statement.{statement}
-use Rattle.sha256.proofs.resting.Tie as tie
+use Rattle.sha256.proofs.buffered.Statement.{statement}
+use Rattle.sha256.proofs.buffered.Tie as tie
 
 hash-all-requires : tie.Need-hash-all-requires
 hash-all-requires c κs = search needs
@@ -24,11 +24,11 @@ in-block-requires c κs = search needs
 
 returns : tie.Need-returns
 returns c =
-    resting-parts (c .before .before .before .before .args .v) (c .before .before .before .before .args .m .now) _ _ _
+    buffered-parts (c .before .before .before .before .args .v) (c .before .before .before .before .args .m .now) _ _ _
     (c .before .before .hash-all .ensures) (c .in-block .ensures)
 
-pub resting-spec : {M : Type 1} → statement M
-resting-spec =
+pub buffered-spec : {M : Type 1} → statement M
+buffered-spec =
     tie.close
     (tie.spec
     hash-all-requires
