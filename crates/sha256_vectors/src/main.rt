@@ -6,28 +6,23 @@ ghost use lib.ListN.{length};
 ghost use Rattle.sha256.specs.Fips180.{sha256};
 use sha256::Running;
 
-// The lower half of a byte, as a hexadecimal digit.
-fn digit(b: u8) -> u8 {
-    let n = b % 16;
-    if n < 10 { 48 + n } else { 87 + n }
+fn wide(b: u8) -> u64 {
+    b as u64
 }
 
-// A digest in hexadecimal, and a byte behind it.
-fn show(d: [u8; 32], last: u8) {
-    let mut line = [last; 65];
+// A digest in hexadecimal.
+fn show(d: [u8; 32]) {
     let mut i: usize = 0;
     while i < 32 {
-        let b = d[i];
-        line[2 * i] = digit(b / 16);
-        line[2 * i + 1] = digit(b);
+        io::print_hex(1, wide(d[i]), 2);
         i += 1;
     }
-    io::write_all(1, &line);
 }
 
 fn vector(name: &[u8], d: [u8; 32]) {
     io::write_all(1, name);
-    show(d, b'\n');
+    show(d);
+    io::write_all(1, b"\n");
 }
 
 // One million times the letter a, in parts of 1,000.
@@ -61,7 +56,7 @@ fn cut(m: &[u8], at: usize) -> [u8; 32]
     Running::new().absorb(&m[0..at]).absorb(&m[at..]).finish()
 }
 
-// The digest of the digests of m, cut in two at every place.
+// The digest of the digests of m, cut in two at every place, its two ends among them.
 fn cuts(m: &[u8]) -> [u8; 32] {
     let mut all = Running::new();
     let mut at: usize = 0;
@@ -70,7 +65,8 @@ fn cuts(m: &[u8]) -> [u8; 32] {
         all = all.absorb(&d);
         at += 1;
     }
-    all.finish()
+    let d = cut(m, m.len());
+    all.absorb(&d).finish()
 }
 
 fn bytewise(m: &[u8]) -> [u8; 32]
@@ -87,9 +83,12 @@ fn bytewise(m: &[u8]) -> [u8; 32]
 }
 
 fn line(m: &[u8]) {
-    show(sha256::digest(m), b' ');
-    show(cuts(m), b' ');
-    show(bytewise(m), b'\n');
+    show(sha256::digest(m));
+    io::write_all(1, b" ");
+    show(cuts(m));
+    io::write_all(1, b" ");
+    show(bytewise(m));
+    io::write_all(1, b"\n");
 }
 
 fn each_length(m: &[u8]) {

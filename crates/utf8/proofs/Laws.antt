@@ -16,7 +16,8 @@ use Rattle.utf8.specs.declared.Next.{Next}
 use Rattle.utf8.specs.declared.Next.the-variants.{Go, Stop}
 use Rattle.utf8.specs.Rfc3629.{Octet}
 use Rattle.utf8.specs.Check.{Range, Row, _to_, _then_, wants, never, tail, utf8-char}
-use Rattle.utf8.specs.Check.{within, start, step, atEnd, checkFrom, tails, wanted, afterOf}
+use Rattle.utf8.specs.Check.{within, start, step, atEnd, checkFrom}
+use Rattle.utf8.specs.State.{tails, wanted, afterOf}
 
 -- an octet and a range
 module _ (lo hi b : ℕ) where

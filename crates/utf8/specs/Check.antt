@@ -1,14 +1,10 @@
 -- The check, octet by octet: at each place, the ranges of the octets that the character begun there still wants.
-use Prim.Native.Nat.{ℕ, _+_, _-_}
+use Prim.Native.Nat.{ℕ, _+_}
 use mathlib.Core.List.{List, [], _∷_}
 use mathlib.Core.Bool.{Bool, false, cond}
-use lib.ListN.{replicate}
-use lib.Dec.{leb, eqb}
+use lib.Dec.{leb}
 use Rattle.utf8.specs.declared.Utf8.{Utf8}
 use Rattle.utf8.specs.declared.Utf8.the-variants.{Valid, BadAt}
-use Rattle.utf8.specs.declared.Want.{Want}
-use Rattle.utf8.specs.declared.Next.{Next}
-use Rattle.utf8.specs.declared.Next.the-variants.{Go, Stop}
 
 infix 40 _to_
 infix 30 _then_
@@ -73,15 +69,3 @@ checkFrom rs at (b ∷ bytes) = onward (step rs b) (λ next. checkFrom next (at 
 -- valid, or the place of the first octet that cannot continue valid text (the length where the text ends inside a character)
 unfoldable pub check : List ℕ → Utf8
 check bytes = checkFrom [] 0 bytes
-
--- a state of the code in which n tails are wanted; with none, a character starts
-abbrev pub tails : ℕ → Want
-tails n = record { left = n; low = 0x80; high = 0xBF }
-
--- the ranges that a state of the code stands for: one for the next octet, tails behind it
-unfoldable pub wanted : Want → List Range
-wanted w = cond (eqb (w .left) 0) [] ((w .low to w .high) ∷ replicate (w .left - 1) tail)
-
-abbrev pub afterOf : Next → After
-afterOf (Go w) = wants (wanted w)
-afterOf Stop = never

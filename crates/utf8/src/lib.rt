@@ -1,7 +1,8 @@
 // Whether bytes are UTF-8 (RFC 3629), and where they stop being it.
 ghost use mathlib.Core.Path.{_≡_};
 ghost use Prim.Native.Nat.{_≤_};
-ghost use Rattle.utf8.specs.Check.{utf8-char, start, step, atEnd, check, tails, wanted, afterOf};
+ghost use Rattle.utf8.specs.Check.{utf8-char, start, step, atEnd, check};
+ghost use Rattle.utf8.specs.State.{tails, wanted, afterOf};
 
 pub enum Utf8 {
     Valid,

@@ -7,21 +7,14 @@ struct Tally {
     places: u64,
 }
 
-// The lower half of a byte, as a hexadecimal digit.
-fn digit(b: u8) -> u8 {
-    let n = b % 16;
-    if n < 10 { 48 + n } else { 87 + n }
-}
-
-fn show_byte(b: u8) {
-    let pair = [digit(b / 16), digit(b)];
-    io::write_all(1, &pair);
+fn wide(b: u8) -> usize {
+    b as usize
 }
 
 fn show_bytes(s: &[u8]) {
     let mut i = 0;
     while i < s.len() {
-        show_byte(s[i]);
+        io::print_hex(1, wide(s[i]) as u64, 2);
         i += 1;
     }
 }
@@ -43,10 +36,6 @@ fn show_answer(r: utf8::Utf8) {
 fn show_case(s: &[u8]) {
     show_bytes(s);
     show_answer(utf8::check(s));
-}
-
-fn wide(b: u8) -> usize {
-    b as usize
 }
 
 // The lines of the cases: in s stands, for each, its length as a byte, and its bytes.

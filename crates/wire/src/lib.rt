@@ -16,17 +16,11 @@ pub enum Pos {
     Past,
 }
 
-fn wide(b: u8) -> u64
-    ensures { λ r. ⌜ (r ≡ b) × (r < 256) ⌝ }
-{
-    b as u64
-}
-
 fn one(s: &[u8], at: usize) -> u64
     requires { ⌜ at + 1 ≤ length (now s) ⌝ }
     ensures { λ r. ⌜ (r ≡ bigEndian (take 1 (drop at (now (s .entry))))) × (r < 2 ^ 8) ⌝ }
 {
-    wide(s[at])
+    s[at] as u64
 }
 
 fn two(s: &[u8], at: usize) -> u64

@@ -36,6 +36,15 @@ loop-less c = search needs
 loop-again : tie.Need-loop-again Inv-loop μ-loop
 loop-again c = omega arith
 
+cut-requires-2 : tie.Need-cut-requires-2 Inv-loop μ-loop
+cut-requires-2 c κs = search needs
+
+slice-aggregate-absorb-2 : tie.Need-slice-aggregate-absorb-2 Inv-loop μ-loop
+slice-aggregate-absorb-2 c = search needs
+
+absorb-requires-2 : tie.Need-absorb-requires-2 Inv-loop μ-loop
+absorb-requires-2 c κs = search needs
+
 finish-requires : tie.Need-finish-requires Inv-loop μ-loop
 finish-requires c κs = search needs
 
@@ -56,5 +65,8 @@ cuts-spec =
     add-at
     loop-less
     loop-again
+    cut-requires-2
+    slice-aggregate-absorb-2
+    absorb-requires-2
     finish-requires
     returns)

@@ -3,7 +3,8 @@ use Prim.Native.Nat.{_-_, _≤_}
 use mathlib.Core.Path.{_≡_, sym, _∙_}
 use native.Mathlib.Omega.{arith}
 use lib.ListN.{length, drop}
-use Rattle.utf8.specs.Check.{check, checkFrom, wanted}
+use Rattle.utf8.specs.Check.{check, checkFrom}
+use Rattle.utf8.specs.State.{wanted}
 use Rattle.utf8.proofs.Laws.{from-go, from-stop, from-end}
 use borrow.Author.Needs.{needs}
 use Rattle.utf8.proofs.check.Statement.{statement}

@@ -1,7 +1,8 @@
 -- A row of three octets has the byte.
 use mathlib.Core.Path.{sym}
 use native.Mathlib.Omega.{arith}
-use Rattle.utf8.specs.Check.{utf8-char, wanted}
+use Rattle.utf8.specs.Check.{utf8-char}
+use Rattle.utf8.specs.State.{wanted}
 use Rattle.utf8.proofs.Laws.{here, after, start-char, start-tails2}
 use borrow.Author.Needs.{needs}
 use Rattle.utf8.proofs.start3.Statement.{statement}

@@ -1,0 +1,22 @@
+-- What the states of the code stand for. The contracts inside the crate cite this; the public one does not.
+use Prim.Native.Nat.{ℕ, _-_}
+use mathlib.Core.List.{List, [], _∷_}
+use mathlib.Core.Bool.{cond}
+use lib.ListN.{replicate}
+use lib.Dec.{eqb}
+use Rattle.utf8.specs.declared.Want.{Want}
+use Rattle.utf8.specs.declared.Next.{Next}
+use Rattle.utf8.specs.declared.Next.the-variants.{Go, Stop}
+use Rattle.utf8.specs.Check.{Range, _to_, tail, After, wants, never}
+
+-- the state in which n tails are wanted; with none, a character starts
+abbrev pub tails : ℕ → Want
+tails n = record { left = n; low = 0x80; high = 0xBF }
+
+-- the ranges that a state stands for: one for the next octet, tails behind it
+unfoldable pub wanted : Want → List Range
+wanted w = cond (eqb (w .left) 0) [] ((w .low to w .high) ∷ replicate (w .left - 1) tail)
+
+abbrev pub afterOf : Next → After
+afterOf (Go w) = wants (wanted w)
+afterOf Stop = never
