@@ -1,0 +1,4 @@
+pub mod Cases
+pub mod DoneStays
+pub mod FuelCuts
+pub mod DoneExactly

@@ -1,0 +1,1 @@
+// The triage calculus and its reference machine: definitions and laws, no code.

@@ -1,0 +1,24 @@
+-- The paper's numbers for each answer of the run call.
+use Prim.Native.Nat.{ℕ}
+use lib.IntN.{ℤ, pos}
+use Rattle.engine.specs.declared.RunAnswer.{RunAnswer}
+use Rattle.engine.specs.declared.RunAnswer.the-variants.{Refused, Done, Stopped}
+
+pub record Numbers : Type 0 where
+  pub number : ℕ
+  pub slot : ℤ
+  pub f : ℤ
+  pub x : ℤ
+  pub steps : ℕ
+  pub used : ℕ
+  pub waiting : ℕ
+
+
+-- numbers not named are 0: a refusal answers its number; done answers 0, the result's slot, steps and used count; a stop answers its number, the f and x
+-- still to be applied, steps, used count and how many frames wait
+abbrev pub numbers : RunAnswer → Numbers
+numbers (Refused n) = record { number = n; slot = pos 0; f = pos 0; x = pos 0; steps = 0; used = 0; waiting = 0 }
+numbers (Done slot steps used) =
+    record { number = 0; slot = slot; f = pos 0; x = pos 0; steps = steps; used = used; waiting = 0 }
+numbers (Stopped n f x steps used waiting) =
+    record { number = n; slot = pos 0; f = f; x = x; steps = steps; used = used; waiting = waiting }

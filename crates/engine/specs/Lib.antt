@@ -1,0 +1,5 @@
+pub mod Rules
+pub mod Step
+pub mod Ready
+pub mod Run
+pub mod Answer

@@ -1,0 +1,31 @@
+-- The seven rules on slots: what applying slot f to slot x asks for. The trees' own rules are calculus's `rule`.
+use mathlib.Core.List.{List}
+use Prim.Native.Nat.{ℕ}
+use Rattle.table.specs.declared.slots.Slot.{Slot}
+use Rattle.table.specs.declared.slots.Node.{Node}
+use Rattle.table.specs.declared.slots.Node.the-variants.{Leaf, Stem, Fork}
+use Rattle.table.specs.declared.frames.Frame.the-variants.{Operand, Argument}
+use Rattle.table.specs.Slots.{nodeAt}
+use Rattle.engine.specs.declared.rules.Action.{Action}
+use Rattle.engine.specs.declared.rules.Action.the-variants.{Make, Give, Go, Push}
+
+-- 5, 6 and 7, for what x is
+unfoldable pub onArgument : Slot → Slot → Slot → Node → Action
+onArgument a b c Leaf = Give a
+onArgument a b c (Stem u) = Go b u
+onArgument a b c (Fork u v) = Push c u (Argument v)
+
+-- 3, 4 and the rest, for what the fork's first child is
+unfoldable pub onFork : List ℕ → Node → Slot → Slot → Action
+onFork w Leaf c x = Give c
+onFork w (Stem a) c x = Push a x (Operand c x)
+onFork w (Fork a b) c x = onArgument a b c (nodeAt w (x .0))
+
+-- 1, 2 and the rest, for what f is
+unfoldable pub onFunction : List ℕ → Node → Slot → Action
+onFunction w Leaf x = Make (Stem x)
+onFunction w (Stem a) x = Make (Fork a x)
+onFunction w (Fork g c) x = onFork w (nodeAt w (g .0)) c x
+
+unfoldable pub rule : List ℕ → Slot → Slot → Action
+rule w f x = onFunction w (nodeAt w (f .0)) x

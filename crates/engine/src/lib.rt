@@ -1,0 +1,167 @@
+// The run call: applies a slot of a lent word table to another, with an allowance of steps.
+ghost use mathlib.Core.Path.{_≡_};
+ghost use Prim.Native.Nat.{_+_, _<_, _^_};
+ghost use Rattle.table.specs.Limits.{maxSlots};
+ghost use Rattle.engine.specs.Ready.{Ready, Waits};
+ghost use Rattle.engine.specs.Run.{ran, finished, stopped, spin, admit, runTail, run};
+use table::frames::clear;
+use table::slots::Place;
+use table::slots::Slot;
+use table::slots::room;
+use table::slots::sound;
+use crate::fuel::Fuel;
+use crate::step::State;
+use crate::step::Status;
+use crate::step::step;
+
+pub mod fuel;
+pub mod rules;
+pub mod step;
+
+pub enum RunAnswer {
+    Refused(u32),
+    Done {
+        slot: i32,
+        steps: u32,
+        used: u32,
+    },
+    // The f and x still to be applied, and how many frames wait.
+    Stopped {
+        number: u32,
+        f: i32,
+        x: i32,
+        steps: u32,
+        used: u32,
+        waiting: u32,
+    },
+}
+
+// Whether a run is let start, and from where.
+pub enum Admission {
+    Refused(u32),
+    Start(State),
+}
+
+fn finished(s: State, steps: u32) -> RunAnswer
+    requires { ⌜ s .f .0 < maxSlots ⌝ }
+    ensures { λ r. ⌜ r ≡ finished s steps ⌝ }
+{
+    let f = s.f;
+    RunAnswer::Done {
+        slot: f.number(),
+        steps,
+        used: s.used,
+    }
+}
+
+fn stopped(number: u32, s: State, steps: u32) -> RunAnswer
+    requires { ⌜ (s .f .0 < maxSlots) × (s .x .0 < maxSlots) ⌝ }
+    ensures { λ r. ⌜ r ≡ stopped number s steps ⌝ }
+{
+    let f = s.f;
+    let x = s.x;
+    RunAnswer::Stopped {
+        number,
+        f: f.number(),
+        x: x.number(),
+        steps,
+        used: s.used,
+        waiting: s.waiting,
+    }
+}
+
+// Steps from a state on until the run is done or stopped; the fuel has the steps so far.
+pub fn spin(words: &mut [u32], jobs: &mut [u32], start: State, fuel: Fuel) -> RunAnswer
+    requires { ⌜ Ready (now words) start × Waits (now jobs) (start .used) (start .waiting) × (fuel .left + fuel .spent < 2 ^ 32) ⌝ }
+    ensures { λ r. ⌜ ran (now (words .exit)) (now (jobs .exit)) r ≡ spin (fuel .left) (fuel .spent) (now (words .entry)) (now (jobs .entry)) start ⌝ }
+{
+    let mut s = start;
+    let mut purse = fuel;
+    while purse.left > 0 {
+        let turn = step(words, jobs, s);
+        let status = turn.status;
+        let next = turn.state;
+        match status {
+            Status::Going => {
+                s = next;
+                purse = purse.spend();
+            }
+            Status::Done => {
+                return finished(next, purse.spent + 1);
+            }
+            Status::NoSlot => {
+                return stopped(32, s, purse.spent);
+            }
+            Status::NoPlace => {
+                return stopped(33, s, purse.spent);
+            }
+        }
+    }
+    stopped(31, s, purse.spent)
+}
+
+// 21, 23 and 24, in that order, or the state that a run starts from.
+pub fn admit(words: &[u32], f: i32, x: i32, used: u32) -> Admission
+    ensures { λ r. ⌜ r ≡ admit (now (words .entry)) f x used ⌝ }
+{
+    if used == 0 {
+        return Admission::Refused(21);
+    }
+    if room(words) < used {
+        return Admission::Refused(21);
+    }
+    let at_f = Slot::place(f, used);
+    let at_x = Slot::place(x, used);
+    let Place::At(f) = at_f else {
+        return Admission::Refused(23);
+    };
+    let Place::At(x) = at_x else {
+        return Admission::Refused(23);
+    };
+    let good = sound(words, used);
+    if !good {
+        return Admission::Refused(24);
+    }
+    Admission::Start(State {
+        f,
+        x,
+        used,
+        waiting: 0,
+    })
+}
+
+// The run on the part of the table that is ours.
+fn run_tail(words: &mut [u32], f: i32, x: i32, used: u32, fuel: u32, jobs: &mut [u32]) -> RunAnswer
+    ensures { λ r. ⌜ ran (now (words .exit)) (now (jobs .exit)) r ≡ runTail (now (words .entry)) f x used fuel (now (jobs .entry)) ⌝ }
+{
+    let admission = admit(words, f, x, used);
+    match admission {
+        Admission::Refused(number) => RunAnswer::Refused(number),
+        Admission::Start(start) => {
+            clear(jobs);
+            spin(words, jobs, start, Fuel::new(fuel))
+        }
+    }
+}
+
+// Applies slot f to slot x of the table that starts at word base, of which `used` slots are used.
+pub fn run(
+    words: &mut [u32],
+    base: i32,
+    f: i32,
+    x: i32,
+    used: u32,
+    fuel: u32,
+    jobs: &mut [u32],
+) -> RunAnswer
+    ensures { λ r. ⌜ ran (now (words .exit)) (now (jobs .exit)) r ≡ run (now (words .entry)) base f x used fuel (now (jobs .entry)) ⌝ }
+{
+    if base < 0 {
+        return RunAnswer::Refused(21);
+    }
+    let at = base as usize;
+    if words.len() < at {
+        return RunAnswer::Refused(21);
+    }
+    run_tail(&mut words[at..], f, x, used, fuel, jobs)
+}

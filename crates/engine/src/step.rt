@@ -1,0 +1,126 @@
+// One step of a run: a rule, and the meeting of its tree with the newest frame.
+ghost use mathlib.Core.Path.{_≡_};
+ghost use Rattle.engine.specs.Step.{going, done, stop, met, meet, at, step};
+ghost use Rattle.engine.specs.Ready.{Ready, Waits};
+use table::frames::Frame;
+use table::frames::drop_frame;
+use table::frames::frame_at;
+use table::frames::frame_room;
+use table::frames::put_frame;
+use table::slots::Slot;
+use table::slots::put_node;
+use table::slots::room;
+use crate::rules::Action;
+use crate::rules::rule;
+
+// Slot f is to be applied to slot x; so many slots are used, and so many frames wait.
+pub struct State {
+    pub f: Slot,
+    pub x: Slot,
+    pub used: u32,
+    pub waiting: u32,
+}
+
+// What a step came to.
+pub enum Status {
+    Going,
+    Done,
+    NoSlot,
+    NoPlace,
+}
+
+// The state behind a step; if that is the last, f is the result.
+pub struct Turn {
+    pub status: Status,
+    pub state: State,
+}
+
+fn going(f: Slot, x: Slot, used: u32, waiting: u32) -> Turn
+    ensures { λ r. ⌜ r ≡ going f x used waiting ⌝ }
+{
+    Turn {
+        status: Status::Going,
+        state: State {
+            f,
+            x,
+            used,
+            waiting,
+        },
+    }
+}
+
+fn done(t: Slot, used: u32) -> Turn
+    ensures { λ r. ⌜ r ≡ done t used ⌝ }
+{
+    Turn {
+        status: Status::Done,
+        state: State {
+            f: t,
+            x: Slot::ZERO,
+            used,
+            waiting: 0,
+        },
+    }
+}
+
+fn stop(status: Status, s: State) -> Turn
+    ensures { λ r. ⌜ r ≡ stop status s ⌝ }
+{
+    Turn { status, state: s }
+}
+
+// The tree in slot t meets the newest frame.
+fn meet(jobs: &mut [u32], t: Slot, used: u32, waiting: u32) -> Turn
+    requires { ⌜ Waits (now jobs) used waiting ⌝ }
+    ensures { λ r. ⌜ met (now (jobs .exit)) r ≡ meet (now (jobs .entry)) t used waiting ⌝ }
+{
+    if waiting == 0 {
+        return done(t, used);
+    }
+    let k = waiting - 1;
+    let frame = frame_at(jobs, k);
+    match frame {
+        Frame::Operand(b, x) => {
+            put_frame(jobs, k, Frame::Function(t));
+            going(b, x, used, waiting)
+        }
+        Frame::Argument(v) => {
+            drop_frame(jobs, k);
+            going(t, v, used, k)
+        }
+        Frame::Function(w) => {
+            drop_frame(jobs, k);
+            going(w, t, used, k)
+        }
+    }
+}
+
+// The body of the run's loop.
+pub fn step(words: &mut [u32], jobs: &mut [u32], s: State) -> Turn
+    requires { ⌜ Ready (now words) s × Waits (now jobs) (s .used) (s .waiting) ⌝ }
+    ensures { λ r. ⌜ at (now (words .exit)) (now (jobs .exit)) r ≡ step (now (words .entry)) (now (jobs .entry)) s ⌝ }
+{
+    let used = s.used;
+    let waiting = s.waiting;
+    let action = rule(words, s);
+    match action {
+        Action::Make(node) => {
+            if used < room(words) {
+                put_node(words, Slot(used), node);
+                meet(jobs, Slot(used), used + 1, waiting)
+            } else {
+                stop(Status::NoSlot, s)
+            }
+        }
+        Action::Give(t) => meet(jobs, t, used, waiting),
+        Action::Go(f, x) => going(f, x, used, waiting),
+        Action::Push(f, x, frame) => {
+            if waiting < frame_room(jobs) {
+                put_frame(jobs, waiting, frame);
+                going(f, x, used, waiting + 1)
+            } else {
+                stop(Status::NoPlace, s)
+            }
+        }
+    }
+}

@@ -1,0 +1,142 @@
+-- Laws of the trees that slots hold: each used slot of a sound table holds one, and the next slot's node changes none.
+use Prim.Native.Nat.{ℕ, zero, suc, _+_, _≤_, _<_}
+use mathlib.Core.Path.{_≡_, refl, ap, _∙_, subst}
+use mathlib.Core.Bool.{true}
+use mathlib.Core.List.{List, [], _∷_}
+use native.Mathlib.Omega.{arith}
+use Rattle.calculus.specs.Tree.{Tree, leaf, stem, fork}
+use Rattle.table.specs.declared.slots.Slot.{Slot}
+use Rattle.table.specs.declared.slots.Node.{Node}
+use Rattle.table.specs.declared.slots.Node.the-variants.{Leaf, Stem, Fork}
+use Rattle.table.specs.Slots.{slot, room, nodeAt, putNode, Below}
+use Rattle.table.specs.Sound.{sound}
+use Rattle.table.specs.Holds.{Has, Holds, holds-leaf, holds-stem, holds-fork, HoldsFrom, Kept, Untouched}
+use Rattle.table.proofs.SlotLaws.{length-put, put-outside, put-here, put-other, has-node}
+use Rattle.table.proofs.SoundLaws.{slot-bounds, slot-has, sound-zero}
+
+-- a slot that holds a tree is a used one, and holds the node of that tree
+module _ {w : List ℕ} {n i : ℕ} where
+  pub held-below : {t : Tree} → Holds w n i t → i < n
+  held-below (holds-leaf h e) = h
+  held-below (holds-stem h e a) = h
+  held-below (holds-fork h e a b) = h
+
+  pub leaf-view : Holds w n i leaf → nodeAt w i ≡ Leaf
+  leaf-view (holds-leaf h e) = has-node e
+
+  pub stem-view : {t : Tree} → Holds w n i (stem t) → (a : ℕ) × (nodeAt w i ≡ Stem (slot a)) × Holds w n a t
+  stem-view (holds-stem {a = a} h e c) = (a, has-node e, c)
+
+  pub fork-view : {t u : Tree} → Holds w n i (fork t u) →
+      (a : ℕ) × (b : ℕ) × (nodeAt w i ≡ Fork (slot a) (slot b)) × Holds w n a t × Holds w n b u
+  fork-view (holds-fork {a = a} {b = b} h e c d) = (a, b, has-node e, c, d)
+
+-- a slot holds one tree at most
+pub one-tree : (w : List ℕ) (n i : ℕ) (t u : Tree) → Holds w n i t → Holds w n i u → t ≡ u
+one-tree w n i leaf leaf h g = refl
+one-tree w n i leaf (stem u) h g = cc (leaf-view h, stem-view g .1)
+one-tree w n i leaf (fork u u′) h g = cc (leaf-view h, fork-view g .2)
+one-tree w n i (stem t) leaf h g = cc (stem-view h .1, leaf-view g)
+one-tree w n i (stem t) (stem u) h g =
+    let p = stem-view h in
+    let q = stem-view g in
+    let e : slot (p .0) ≡ slot (q .0) = cc (p .1, q .1) in
+    ap stem (one-tree w n (q .0) t u (subst (λ (s : Slot). Holds w n (s .0) t) e (p .2)) (q .2))
+one-tree w n i (stem t) (fork u u′) h g = cc (stem-view h .1, fork-view g .2)
+one-tree w n i (fork t t′) leaf h g = cc (fork-view h .2, leaf-view g)
+one-tree w n i (fork t t′) (stem u) h g = cc (fork-view h .2, stem-view g .1)
+one-tree w n i (fork t t′) (fork u u′) h g =
+    let p = fork-view h in
+    let q = fork-view g in
+    let e : slot (p .0) ≡ slot (q .0) = cc (p .2, q .2) in
+    let d : slot (p .1) ≡ slot (q .1) = cc (p .2, q .2) in
+    cc (
+      one-tree w n (q .0) t u (subst (λ (s : Slot). Holds w n (s .0) t) e (p .3)) (q .3),
+      one-tree w n (q .1) t′ u′ (subst (λ (s : Slot). Holds w n (s .0) t′) d (p .4)) (q .4),
+    )
+
+-- the node of slot n is written
+module _ (w : List ℕ) (n : ℕ) where
+  module _ (node : Node) where
+    -- what the slots below hold stays
+    pub put-keeps : Kept w n (putNode w n node) (n + 1)
+    put-keeps i leaf (holds-leaf h e) = holds-leaf {i = i} (omega arith) (put-other w n node i Leaf (omega arith) e)
+    put-keeps i (stem t) (holds-stem {a = a} h e c) =
+        holds-stem {i = i} {a = a} (omega arith) (put-other w n node i (Stem (slot a)) (omega arith) e)
+        (put-keeps a t c)
+    put-keeps i (fork t u) (holds-fork {a = a} {b = b} h e c d) =
+        holds-fork {i = i} {a = a} {b = b} (omega arith) (put-other w n node i (Fork (slot a) (slot b)) (omega arith) e)
+        (put-keeps a t c) (put-keeps b u d)
+
+    -- one slot is written
+    pub untouched-put : Untouched w n (putNode w n node) (n + 1)
+    untouched-put =
+        record {
+          long = length-put w n node;
+          under = λ k h. put-outside w n node k (omega arith) (omega arith);
+          over = λ k h. put-outside w n node k (omega arith) (omega arith);
+        }
+
+  -- the slot holds the tree of its node
+  pub put-leaf : n < room w → Holds (putNode w n Leaf) (n + 1) n leaf
+  put-leaf l = holds-leaf {i = n} (omega arith) (put-here w n Leaf l)
+
+  pub put-stem : (a : ℕ) (t : Tree) → n < room w → Holds w n a t →
+      Holds (putNode w n (Stem (slot a))) (n + 1) n (stem t)
+  put-stem a t l h =
+      holds-stem {i = n} {a = a} (omega arith) (put-here w n (Stem (slot a)) l) (put-keeps (Stem (slot a)) a t h)
+
+  pub put-fork : (a b : ℕ) (t u : Tree) → n < room w → Holds w n a t → Holds w n b u →
+      Holds (putNode w n (Fork (slot a) (slot b))) (n + 1) n (fork t u)
+  put-fork a b t u l h g =
+      let node = Fork (slot a) (slot b) in
+      holds-fork {i = n} {a = a} {b = b} (omega arith) (put-here w n node l)
+      (put-keeps node a t h) (put-keeps node b u g)
+
+  -- nothing is written
+  pub untouched-refl : Untouched w n w n
+  untouched-refl = record { long = refl; under = λ _ _. refl; over = λ _ _. refl }
+
+module _ (w : List ℕ) (n : ℕ) (good : sound w n ≡ true) where
+  -- slot 0 holds the leaf
+  pub zero-leaf : 0 < n → Holds w n 0 leaf
+  zero-leaf h = holds-leaf {i = 0} h (sound-zero w n good h)
+
+  -- the used slots below m hold trees
+  abbrev Trees : ℕ → Type 0
+  Trees m = (i : ℕ) → i < m → i < n → (t : Tree) × Holds w n i t
+
+  step : (i : ℕ) (node : Node) → i < n → Trees i → Has w i node → Below i node → (t : Tree) × Holds w n i t
+  step i Leaf h ts e b = (leaf, holds-leaf {i = i} h e)
+  step i (Stem a) h ts e b =
+      let s = ts (a .0) b (omega arith) in
+      (stem (s .0), holds-stem {i = i} {a = a .0} h e (s .1))
+  step i (Fork a c) h ts e b =
+      let s = ts (a .0) (b .0) (omega arith) in
+      let r = ts (c .0) (b .1) (omega arith) in
+      (fork (s .0) (r .0), holds-fork {i = i} {a = a .0} {b = c .0} h e (s .1) (r .1))
+
+  trees : (m : ℕ) → Trees m
+  trees zero i l h = absurd (omega arith)
+  trees (suc m) i l h =
+      step i (nodeAt w i) h (λ k g. trees m k (omega arith)) (slot-has w n good i h) (slot-bounds w n good i h)
+
+  -- each used slot holds a tree
+  pub sound-holds : (i : ℕ) → i < n → (t : Tree) × Holds w n i t
+  sound-holds i h = trees (suc i) i (omega arith) h
+
+-- a list of trees is kept with each of them
+pub from-kept : {w v : List ℕ} {n m : ℕ} → Kept w n v m →
+    (k : ℕ) (ts : List Tree) → HoldsFrom w n k ts → HoldsFrom v m k ts
+from-kept kept k [] h = tt
+from-kept kept k (t ∷ ts) h = (kept k t (h .0), from-kept kept (suc k) ts (h .1))
+
+-- two stretches of written slots, one behind the other
+pub untouched-trans : {w v u : List ℕ} {n m k : ℕ} → n ≤ m → m ≤ k →
+    Untouched w n v m → Untouched v m u k → Untouched w n u k
+untouched-trans l r a b =
+    record {
+      long = b .long ∙ a .long;
+      under = λ i h. b .under i (omega arith) ∙ a .under i h;
+      over = λ i h. b .over i h ∙ a .over i (omega arith);
+    }

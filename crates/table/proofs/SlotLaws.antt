@@ -1,0 +1,121 @@
+-- Laws of slots: what a slot holds after a node was written, and which numbers name a slot.
+use Prim.Native.Nat.{ℕ, _+_, _*_, _/_, _≤_, _<_}
+use mathlib.Core.Path.{_≡_, refl, ap, _∙_}
+use mathlib.Core.Bool.{Bool, true, false, cond}
+use mathlib.Core.List.{List}
+use native.Mathlib.Omega.{arith}
+use native.Mathlib.Numerals.{add-one}
+use lib.ListN.{length, getD, length-set}
+use lib.Seq.{getD-set-same, getD-set-other}
+use lib.Dec.{ltb}
+use lib.IntN.{ℤ, pos, negsuc}
+use borrow.Author.Tests.{lt-ltb, le-ltb, ltb-true}
+use Rattle.table.specs.declared.slots.Slot.{Slot}
+use Rattle.table.specs.declared.slots.Place.the-variants.{At, Nowhere}
+use Rattle.table.specs.declared.slots.Node.{Node}
+use Rattle.table.specs.declared.slots.Node.the-variants.{Leaf, Stem, Fork}
+use Rattle.table.specs.Limits.{maxSlots, atMost}
+use Rattle.table.specs.Slots.{width, slot, room, place, firstAt, secondAt}
+use Rattle.table.specs.Slots.{putWords, nodeAt, putNode}
+use Rattle.table.specs.Holds.{Has}
+
+-- a table's room depends on its length alone
+pub room-long : (w v : List ℕ) → length v ≡ length w → room v ≡ room w
+unfolding room
+room-long w v e = ap (λ (l : ℕ). atMost maxSlots (l / width)) e
+
+-- it is at most the limit
+pub room-most : (w : List ℕ) → room w ≤ maxSlots
+unfolding room
+room-most w = omega arith
+
+-- both words of a slot in the room are words of the table
+pub in-room : (w : List ℕ) (i : ℕ) → i < room w → width * i + 1 < length w
+unfolding room
+in-room w i h = omega arith
+
+-- a slot that has the words of a node holds that node
+pub has-node : {w : List ℕ} {i : ℕ} {n : Node} → Has w i n → nodeAt w i ≡ n
+unfolding nodeAt
+has-node {n = Leaf} h = rw (h .first)
+has-node {n = Stem a} h = rw (h .first, h .second) (simp add-one)
+has-node {n = Fork a b} h = rw (h .first, h .second) (simp add-one)
+
+-- a node is written in slot i
+module _ (w : List ℕ) (i : ℕ) (n : Node) where
+  -- the table is as long, and has the same room
+  pub length-put : length (putNode w i n) ≡ length w
+  unfolding putNode putWords
+  length-put = simp length-set
+
+  pub room-put : room (putNode w i n) ≡ room w
+  room-put = room-long w (putNode w i n) length-put
+
+  -- every word but the slot's two stays
+  pub put-outside : (k : ℕ) → (k ≡ width * i → ⊥) → (k ≡ width * i + 1 → ⊥) → getD (putNode w i n) k 0 ≡ getD w k 0
+  unfolding putNode putWords
+  put-outside k h g = simp (getD-set-other, h, g)
+
+  -- the slot has the node's words, and holds it
+  pub put-here : i < room w → Has (putNode w i n) i n
+  unfolding putNode putWords firstAt secondAt
+  put-here h =
+      let l = in-room w i h in
+      let m : width * i < length w = omega arith in
+      let one : width * i ≡ width * i + 1 → ⊥ = omega arith in
+      record {
+        first = search (getD-set-other, getD-set-same);
+        second = search (getD-set-same, length-set);
+      }
+
+  pub node-here : i < room w → nodeAt (putNode w i n) i ≡ n
+  node-here h = has-node (put-here h)
+
+  -- another slot has the words that it had, and holds what it held
+  pub first-other : (k : ℕ) → (k ≡ i → ⊥) → firstAt (putNode w i n) k ≡ firstAt w k
+  unfolding firstAt
+  first-other k h = put-outside (width * k) (omega (arith, h)) (omega arith)
+
+  pub second-other : (k : ℕ) → (k ≡ i → ⊥) → secondAt (putNode w i n) k ≡ secondAt w k
+  unfolding secondAt
+  second-other k h = put-outside (width * k + 1) (omega arith) (omega (arith, h))
+
+  pub put-other : (k : ℕ) (m : Node) → (k ≡ i → ⊥) → Has w k m → Has (putNode w i n) k m
+  put-other k m h g = record { first = first-other k h ∙ g .first; second = second-other k h ∙ g .second }
+
+  pub node-other : (k : ℕ) → (k ≡ i → ⊥) → nodeAt (putNode w i n) k ≡ nodeAt w k
+  unfolding nodeAt
+  node-other k h = rw (first-other k h, second-other k h)
+
+-- a number below the used slots names its slot
+pub place-in : {z : ℤ} {n used : ℕ} → z ≡ pos n → n < used → At (slot n) ≡ place z used
+unfolding place
+place-in e h = rw e (simp (lt-ltb _ _ h))
+
+-- one that is not below them, and a negative one, name none
+pub place-out : {z : ℤ} {n used : ℕ} → z ≡ pos n → used ≤ n → Nowhere ≡ place z used
+unfolding place
+place-out e h = rw e (simp (le-ltb _ _ h))
+
+pub place-negative : {z : ℤ} (used : ℕ) → (n : ℕ) × (z ≡ negsuc n) → Nowhere ≡ place z used
+unfolding place
+place-negative used p = rw (p .1)
+
+-- a number that names a slot is below the used ones, and is that slot's
+pub place-at : (z : ℤ) (used : ℕ) (s : Slot) → place z used ≡ At s → (z ≡ pos (s .0)) × (s .0 < used)
+unfolding place
+place-at (pos n) used s = go (ltb n used) refl
+  where
+    go : (b : Bool) → ltb n used ≡ b → cond b (At (slot n)) Nowhere ≡ At s → (pos n ≡ pos (s .0)) × (s .0 < used)
+    go true h e =
+        let q : slot n ≡ s = cc in
+        let r : n ≡ s .0 = ap (λ (x : Slot). x .0) q in
+        (ap pos r, let l : n < used = ltb-true n used h in omega arith)
+    go false h e = let z : _≡_ {A = ℕ} 0 1 = cc in absurd (omega arith)
+place-at (negsuc n) used s = λ e. let z : _≡_ {A = ℕ} 0 1 = cc in absurd (omega arith)
+
+pub place-is : (z : ℤ) (used : ℕ) (s : Slot) → place z used ≡ At s → z ≡ pos (s .0)
+place-is z used s e = place-at z used s e .0
+
+pub place-below : (z : ℤ) (used : ℕ) (s : Slot) → place z used ≡ At s → s .0 < used
+place-below z used s e = place-at z used s e .1

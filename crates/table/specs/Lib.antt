@@ -1,0 +1,5 @@
+pub mod Limits
+pub mod Slots
+pub mod Sound
+pub mod Frames
+pub mod Holds

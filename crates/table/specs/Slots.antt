@@ -1,0 +1,70 @@
+-- Slots: slot i of the part of the table that is ours is its words 2i and 2i + 1.
+use Prim.Native.Nat.{ℕ, zero, suc, _+_, _*_, _/_, _<_}
+use mathlib.Core.Bool.{cond}
+use mathlib.Core.List.{List}
+use lib.ListN.{length, getD, set}
+use lib.Dec.{ltb}
+use lib.IntN.{ℤ, pos, negsuc}
+use Rattle.table.specs.declared.slots.Slot.{Slot}
+use Rattle.table.specs.declared.slots.Place.{Place}
+use Rattle.table.specs.declared.slots.Place.the-variants.{At, Nowhere}
+use Rattle.table.specs.declared.slots.Node.{Node}
+use Rattle.table.specs.declared.slots.Node.the-variants.{Leaf, Stem, Fork}
+use Rattle.table.specs.Limits.{maxSlots, atMost}
+
+-- the words of a slot
+abbrev pub width : ℕ
+width = 2
+
+abbrev pub slot : ℕ → Slot
+slot n = record { 0 = n }
+
+-- room is the smaller of 65,535 and half the words, rounded down
+unfoldable pub room : List ℕ → ℕ
+room w = atMost maxSlots (length w / width)
+
+-- the slot of that number among the first `used`; a negative number names none
+unfoldable pub place : ℤ → ℕ → Place
+place (pos n) used = cond (ltb n used) (At (slot n)) Nowhere
+place (negsuc n) used = Nowhere
+
+-- leaf is (0, 0); a stem on slot a is (a + 1, 0); a fork of a and b is (a + 1, b + 1)
+abbrev pub firstWord : Node → ℕ
+firstWord Leaf = 0
+firstWord (Stem a) = a .0 + 1
+firstWord (Fork a b) = a .0 + 1
+
+abbrev pub secondWord : Node → ℕ
+secondWord Leaf = 0
+secondWord (Stem a) = 0
+secondWord (Fork a b) = b .0 + 1
+
+-- the node of two words; no sound slot has 0 before another word
+abbrev pub nodeOf : ℕ → ℕ → Node
+nodeOf zero q = Leaf
+nodeOf (suc a) zero = Stem (slot a)
+nodeOf (suc a) (suc b) = Fork (slot a) (slot b)
+
+-- the two words of slot i
+unfoldable pub firstAt : List ℕ → ℕ → ℕ
+firstAt w i = getD w (width * i) 0
+
+unfoldable pub secondAt : List ℕ → ℕ → ℕ
+secondAt w i = getD w (width * i + 1) 0
+
+unfoldable pub putWords : List ℕ → ℕ → ℕ → ℕ → List ℕ
+putWords w i p q = set (set w (width * i) p) (width * i + 1) q
+
+-- what slot i holds
+unfoldable pub nodeAt : List ℕ → ℕ → Node
+nodeAt w i = nodeOf (firstAt w i) (secondAt w i)
+
+-- the table with a node written in slot i
+unfoldable pub putNode : List ℕ → ℕ → Node → List ℕ
+putNode w i n = putWords w i (firstWord n) (secondWord n)
+
+-- the children's slots are lower than i
+abbrev pub Below : ℕ → Node → Type 0
+Below i Leaf = Unit {0}
+Below i (Stem a) = a .0 < i
+Below i (Fork a b) = (a .0 < i) × (b .0 < i)

@@ -1,0 +1,22 @@
+-- Whether the used slots are sound.
+use Prim.Native.Nat.{ℕ, zero, suc, _≤_, _<_}
+use mathlib.Core.Path.{_≡_}
+use mathlib.Core.Bool.{Bool, true, false, _&&_}
+use mathlib.Core.List.{List}
+use lib.Dec.{leb, eqb}
+use Rattle.table.specs.Slots.{room, firstAt, secondAt}
+
+-- slot 0 is (0, 0); in each later slot i the first word is 1 to i and the second 0 to i
+unfoldable pub slotSound : ℕ → ℕ → ℕ → Bool
+slotSound zero p q = eqb p 0 && eqb q 0
+slotSound (suc i) p q = leb 1 p && (leb p (suc i) && leb q (suc i))
+
+-- the first n slots are sound
+unfoldable pub sound : List ℕ → ℕ → Bool
+sound w zero = true
+sound w (suc i) = sound w i && slotSound i (firstAt w i) (secondAt w i)
+
+-- the first n slots of a table, within its room, sound: what a run works on
+pub record Sound (w : List ℕ) (n : ℕ) : Type 0 where
+  pub fits : n ≤ room w
+  pub sound : sound w n ≡ true
