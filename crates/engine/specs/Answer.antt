@@ -13,7 +13,6 @@ pub record Numbers : Type 0 where
   pub used : ℕ
   pub waiting : ℕ
 
-
 -- numbers not named are 0: a refusal answers its number; done answers 0, the result's slot, steps and used count; a stop answers its number, the f and x
 -- still to be applied, steps, used count and how many frames wait
 abbrev pub numbers : RunAnswer → Numbers

@@ -4,11 +4,11 @@ ghost use Prim.Native.Nat.{_<_};
 ghost use Rattle.table.specs.Slots.{room};
 ghost use Rattle.engine.specs.Rules.{onArgument, onFork, rule};
 ghost use Rattle.engine.specs.Ready.{Ready};
+use crate::step::State;
 use table::frames::Frame;
 use table::slots::Node;
 use table::slots::Slot;
 use table::slots::node_at;
-use crate::step::State;
 
 // What applying f to x asks for.
 pub enum Action {

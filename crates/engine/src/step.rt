@@ -2,6 +2,8 @@
 ghost use mathlib.Core.Path.{_≡_};
 ghost use Rattle.engine.specs.Step.{going, done, stop, met, meet, at, step};
 ghost use Rattle.engine.specs.Ready.{Ready, Waits};
+use crate::rules::Action;
+use crate::rules::rule;
 use table::frames::Frame;
 use table::frames::drop_frame;
 use table::frames::frame_at;
@@ -10,8 +12,6 @@ use table::frames::put_frame;
 use table::slots::Slot;
 use table::slots::put_node;
 use table::slots::room;
-use crate::rules::Action;
-use crate::rules::rule;
 
 // Slot f is to be applied to slot x; so many slots are used, and so many frames wait.
 pub struct State {

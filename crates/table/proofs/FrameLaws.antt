@@ -10,7 +10,7 @@ use Rattle.calculus.specs.Rules.{Frame as Job}
 use Rattle.table.specs.declared.frames.Frame.{Frame}
 use Rattle.table.specs.declared.frames.Frame.the-variants.{Operand, Argument, Function}
 use Rattle.table.specs.Limits.{maxFrames, atMost}
-use Rattle.table.specs.Frames.{frameWidth, frameRoom, Words, wordsOf, none, wordsAt, putWords}
+use Rattle.table.specs.Frames.{frameWidth, frameRoom, Record, recordOf, none, recordAt, putRecord}
 use Rattle.table.specs.Frames.{frameAt, putFrame, dropFrame, cleared}
 use Rattle.table.specs.Holds.{Kept, Stands, stands-operand, stands-argument, stands-function, StandFrom, ZeroFrom}
 
@@ -30,66 +30,66 @@ unfolding frameRoom
 in-frame-room j k h = omega arith
 
 same-words : {a b c a′ b′ c′ : ℕ} → a ≡ a′ → b ≡ b′ → c ≡ c′ →
-    _≡_ {A = Words} (record { tag = a; first = b; second = c }) (record { tag = a′; first = b′; second = c′ })
+    _≡_ {A = Record} (record { tag = a; first = b; second = c }) (record { tag = a′; first = b′; second = c′ })
 same-words p q r = λ i. record { tag = p i; first = q i; second = r i }
 
 -- three words are written at place i
-module _ (j : List ℕ) (i : ℕ) (v : Words) where
-  length-words : length (putWords j i v) ≡ length j
-  unfolding putWords
-  length-words = simp length-set
+module _ (j : List ℕ) (i : ℕ) (v : Record) where
+  length-record : length (putRecord j i v) ≡ length j
+  unfolding putRecord
+  length-record = simp length-set
 
   -- every word but the place's three stays
   outside : (k : ℕ) → (k ≡ frameWidth * i → ⊥) → (k ≡ frameWidth * i + 1 → ⊥) → (k ≡ frameWidth * i + 2 → ⊥) →
-      getD (putWords j i v) k 0 ≡ getD j k 0
-  unfolding putWords
+      getD (putRecord j i v) k 0 ≡ getD j k 0
+  unfolding putRecord
   outside k h₀ h₁ h₂ = simp (getD-set-other, h₀, h₁, h₂)
 
-  put-words-other : (k : ℕ) → (k ≡ i → ⊥) → wordsAt (putWords j i v) k ≡ wordsAt j k
-  unfolding wordsAt
-  put-words-other k h =
+  put-record-other : (k : ℕ) → (k ≡ i → ⊥) → recordAt (putRecord j i v) k ≡ recordAt j k
+  unfolding recordAt
+  put-record-other k h =
       same-words
       (outside (frameWidth * k) (omega (arith, h)) (omega arith) (omega arith))
       (outside (frameWidth * k + 1) (omega arith) (omega (arith, h)) (omega arith))
       (outside (frameWidth * k + 2) (omega arith) (omega arith) (omega (arith, h)))
 
   module _ (h : i < frameRoom j) where
-    put-tag : getD (putWords j i v) (frameWidth * i) 0 ≡ v .tag
-    unfolding putWords
+    put-tag : getD (putRecord j i v) (frameWidth * i) 0 ≡ v .tag
+    unfolding putRecord
     put-tag =
         let l : frameWidth * i < length j = omega (arith, in-frame-room j i h) in
         let one : frameWidth * i ≡ frameWidth * i + 1 → ⊥ = omega arith in
         let two : frameWidth * i ≡ frameWidth * i + 2 → ⊥ = omega arith in
         search (getD-set-other, getD-set-same)
 
-    put-first : getD (putWords j i v) (frameWidth * i + 1) 0 ≡ v .first
-    unfolding putWords
+    put-first : getD (putRecord j i v) (frameWidth * i + 1) 0 ≡ v .first
+    unfolding putRecord
     put-first =
         let l : frameWidth * i + 1 < length j = omega (arith, in-frame-room j i h) in
         let two : frameWidth * i + 1 ≡ frameWidth * i + 2 → ⊥ = omega arith in
         search (getD-set-other, getD-set-same, length-set)
 
-    put-second : getD (putWords j i v) (frameWidth * i + 2) 0 ≡ v .second
-    unfolding putWords
+    put-second : getD (putRecord j i v) (frameWidth * i + 2) 0 ≡ v .second
+    unfolding putRecord
     put-second = let l = in-frame-room j i h in search (getD-set-same, length-set)
 
-    put-words-here : wordsAt (putWords j i v) i ≡ v
-    unfolding wordsAt
-    put-words-here = same-words put-tag put-first put-second
+    put-record-here : recordAt (putRecord j i v) i ≡ v
+    unfolding recordAt
+    put-record-here = same-words put-tag put-first put-second
 
   -- words that were 0 behind the place are 0
-  zero-behind : ZeroFrom j (suc i) → ZeroFrom (putWords j i v) (suc i)
+  zero-behind : ZeroFrom j (suc i) → ZeroFrom (putRecord j i v) (suc i)
   zero-behind z k h = outside k (omega arith) (omega arith) (omega arith) ∙ z k h
 
 -- a place that has the words of a frame holds that frame
-pub frame-is : (j : List ℕ) (k : ℕ) (f : Frame) → wordsAt j k ≡ wordsOf f → frameAt j k ≡ f
+pub frame-is : (j : List ℕ) (k : ℕ) (f : Frame) → recordAt j k ≡ recordOf f → frameAt j k ≡ f
 unfolding frameAt
 frame-is j k (Operand b x) e = rw e
 frame-is j k (Argument v) e = rw e
 frame-is j k (Function w) e = rw e
 
 -- places with the same words hold the same frame
-frame-same : (j k : List ℕ) (i l : ℕ) → wordsAt j i ≡ wordsAt k l → frameAt j i ≡ frameAt k l
+frame-same : (j k : List ℕ) (i l : ℕ) → recordAt j i ≡ recordAt k l → frameAt j i ≡ frameAt k l
 unfolding frameAt
 frame-same j k i l e = rw e
 
@@ -98,28 +98,28 @@ module _ (j : List ℕ) (i : ℕ) (f : Frame) where
   -- the table is as long
   pub length-put-frame : length (putFrame j i f) ≡ length j
   unfolding putFrame
-  length-put-frame = length-words j i (wordsOf f)
+  length-put-frame = length-record j i (recordOf f)
 
   -- the place has the frame's words, and each other place those that it had
-  pub words-here : i < frameRoom j → wordsAt (putFrame j i f) i ≡ wordsOf f
+  pub record-here : i < frameRoom j → recordAt (putFrame j i f) i ≡ recordOf f
   unfolding putFrame
-  words-here h = put-words-here j i (wordsOf f) h
+  record-here h = put-record-here j i (recordOf f) h
 
-  pub words-other : (k : ℕ) → (k ≡ i → ⊥) → wordsAt (putFrame j i f) k ≡ wordsAt j k
+  pub record-other : (k : ℕ) → (k ≡ i → ⊥) → recordAt (putFrame j i f) k ≡ recordAt j k
   unfolding putFrame
-  words-other k h = put-words-other j i (wordsOf f) k h
+  record-other k h = put-record-other j i (recordOf f) k h
 
   -- the place holds the frame, and each other place what it held
   pub frame-here : i < frameRoom j → frameAt (putFrame j i f) i ≡ f
-  frame-here h = frame-is (putFrame j i f) i f (words-here h)
+  frame-here h = frame-is (putFrame j i f) i f (record-here h)
 
   pub frame-other : (k : ℕ) → (k ≡ i → ⊥) → frameAt (putFrame j i f) k ≡ frameAt j k
-  frame-other k h = frame-same (putFrame j i f) j k k (words-other k h)
+  frame-other k h = frame-same (putFrame j i f) j k k (record-other k h)
 
   -- written over the last frame, or behind it, a frame is the last: every word behind it is 0
   pub zero-over : ZeroFrom j (suc i) → ZeroFrom (putFrame j i f) (suc i)
   unfolding putFrame
-  zero-over z = zero-behind j i (wordsOf f) z
+  zero-over z = zero-behind j i (recordOf f) z
 
   pub zero-put : ZeroFrom j i → ZeroFrom (putFrame j i f) (suc i)
   zero-put z = zero-over (λ k h. z k (omega arith))
@@ -129,15 +129,15 @@ module _ (j : List ℕ) (i : ℕ) where
   -- the table is as long
   pub length-drop : length (dropFrame j i) ≡ length j
   unfolding dropFrame
-  length-drop = length-words j i none
+  length-drop = length-record j i none
 
   -- each other place has the words that it had, and holds what it held
-  pub words-dropped : (k : ℕ) → (k ≡ i → ⊥) → wordsAt (dropFrame j i) k ≡ wordsAt j k
+  pub record-dropped : (k : ℕ) → (k ≡ i → ⊥) → recordAt (dropFrame j i) k ≡ recordAt j k
   unfolding dropFrame
-  words-dropped k h = put-words-other j i none k h
+  record-dropped k h = put-record-other j i none k h
 
   pub frame-dropped : (k : ℕ) → (k ≡ i → ⊥) → frameAt (dropFrame j i) k ≡ frameAt j k
-  frame-dropped k h = frame-same (dropFrame j i) j k k (words-dropped k h)
+  frame-dropped k h = frame-same (dropFrame j i) j k k (record-dropped k h)
 
   -- once the last frame is gone, every word from its place on is 0
   pub zero-drop : i < frameRoom j → ZeroFrom j (suc i) → ZeroFrom (dropFrame j i) i
@@ -170,7 +170,7 @@ zero-cleared j i h = zeros-at (length j) i
 
 -- words stand for the same frame wherever the trees are kept
 module _ {w v : List ℕ} {n m : ℕ} (kept : Kept w n v m) where
-  pub stands-kept : (words : Words) (f : Job) → Stands w n words f → Stands v m words f
+  pub stands-kept : (words : Record) (f : Job) → Stands w n words f → Stands v m words f
   stands-kept words _ (stands-operand {a = a} {b = b} {t = t} {u = u} e h g) =
       stands-operand {a = a} {b = b} e (kept a t h) (kept b u g)
   stands-kept words _ (stands-argument {a = a} {t = t} e h) = stands-argument {a = a} e (kept a t h)
@@ -179,4 +179,4 @@ module _ {w v : List ℕ} {n m : ℕ} (kept : Kept w n v m) where
   -- and so do the places of a frame table
   pub stand-kept : (j : List ℕ) (k : ℕ) (fs : List Job) → StandFrom w n j k fs → StandFrom v m j k fs
   stand-kept j k [] h = tt
-  stand-kept j k (f ∷ fs) h = (stands-kept (wordsAt j k) f (h .0), stand-kept j (suc k) fs (h .1))
+  stand-kept j k (f ∷ fs) h = (stands-kept (recordAt j k) f (h .0), stand-kept j (suc k) fs (h .1))

@@ -2,8 +2,9 @@
 use Prim.Native.Nat.{ℕ, zero, suc, _+_, _≤_, _<_}
 use mathlib.Core.Path.{_≡_, refl, ap, _∙_, subst}
 use mathlib.Core.Bool.{true}
-use mathlib.Core.List.{List, [], _∷_}
+use mathlib.Core.List.{List, [], _∷_, _++_}
 use native.Mathlib.Omega.{arith}
+use lib.ListN.{length, getD}
 use Rattle.calculus.specs.Tree.{Tree, leaf, stem, fork}
 use Rattle.table.specs.declared.slots.Slot.{Slot}
 use Rattle.table.specs.declared.slots.Node.{Node}
@@ -124,6 +125,25 @@ module _ (w : List ℕ) (n : ℕ) (good : sound w n ≡ true) where
   -- each used slot holds a tree
   pub sound-holds : (i : ℕ) → i < n → (t : Tree) × Holds w n i t
   sound-holds i h = trees (suc i) i (omega arith) h
+
+-- trees that slots hold one after the other
+module _ (w : List ℕ) (n : ℕ) where
+  -- the slot of a place in the list holds the tree there
+  pub from-at : (k i m : ℕ) (ts : List Tree) → k + i ≡ m → i < length ts → HoldsFrom w n k ts
+      → Holds w n m (getD ts i leaf)
+  from-at k i m [] e l h = absurd (omega arith)
+  from-at k zero m (t ∷ ts) e l h =
+      let d : k ≡ m = omega arith in
+      subst (λ (i : ℕ). Holds w n i t) d (h .0)
+  from-at k (suc i) m (t ∷ ts) e l h = from-at (suc k) i m ts (omega arith) (omega arith) (h .1)
+
+  -- two lists, one behind the other
+  pub from-append : (k m : ℕ) (ts us : List Tree) → k + length ts ≡ m → HoldsFrom w n k ts → HoldsFrom w n m us
+      → HoldsFrom w n k (ts ++ us)
+  from-append k m [] us e h g =
+      let d : m ≡ k = omega arith in
+      subst (λ (i : ℕ). HoldsFrom w n i us) d g
+  from-append k m (t ∷ ts) us e h g = (h .0, from-append (suc k) m ts us (omega arith) (h .1) g)
 
 -- a list of trees is kept with each of them
 pub from-kept : {w v : List ℕ} {n m : ℕ} → Kept w n v m →

@@ -1,10 +1,11 @@
 -- Laws of slots: what a slot holds after a node was written, and which numbers name a slot.
 use Prim.Native.Nat.{ℕ, _+_, _*_, _/_, _≤_, _<_}
-use mathlib.Core.Path.{_≡_, refl, ap, _∙_}
+use mathlib.Core.Path.{_≡_, refl, sym, ap, _∙_}
 use mathlib.Core.Bool.{Bool, true, false, cond}
 use mathlib.Core.List.{List}
 use native.Mathlib.Omega.{arith}
 use native.Mathlib.Numerals.{add-one}
+use native.Mathlib.Decide.{decLt}
 use lib.ListN.{length, getD, length-set}
 use lib.Seq.{getD-set-same, getD-set-other}
 use lib.Dec.{ltb}
@@ -16,7 +17,7 @@ use Rattle.table.specs.declared.slots.Node.{Node}
 use Rattle.table.specs.declared.slots.Node.the-variants.{Leaf, Stem, Fork}
 use Rattle.table.specs.Limits.{maxSlots, atMost}
 use Rattle.table.specs.Slots.{width, slot, room, place, firstAt, secondAt}
-use Rattle.table.specs.Slots.{putWords, nodeAt, putNode}
+use Rattle.table.specs.Slots.{putWords, nodeAt, putNode, SameSlots}
 use Rattle.table.specs.Holds.{Has}
 
 -- a table's room depends on its length alone
@@ -119,3 +120,26 @@ place-is z used s e = place-at z used s e .0
 
 pub place-below : (z : ℤ) (used : ℕ) (s : Slot) → place z used ≡ At s → s .0 < used
 place-below z used s e = place-at z used s e .1
+
+-- tables with the same words in the first n slots
+module _ {n : ℕ} (w v : List ℕ) (same : SameSlots n w v) where
+  -- hold the same nodes there
+  pub same-node : (i : ℕ) → i < n → nodeAt w i ≡ nodeAt v i
+  unfolding nodeAt
+  same-node i h = rw (same i h .0, same i h .1)
+
+  -- and have the same words in one slot more where the same node is written
+  pub same-put : (node : Node) → n < room w → n < room v → SameSlots (n + 1) (putNode w n node) (putNode v n node)
+  same-put node h l i b =
+      elim (decLt i n) [
+        | yes g ↦
+            let o : i ≡ n → ⊥ = omega arith in (
+              first-other w n node i o ∙ same i g .0 ∙ sym (first-other v n node i o),
+              second-other w n node i o ∙ same i g .1 ∙ sym (second-other v n node i o),
+            )
+        | no g ↦
+            let e : i ≡ n = omega (arith, g) in
+            let p = put-here w n node h in
+            let q = put-here v n node l in
+            rw e (p .first ∙ sym (q .first), p .second ∙ sym (q .second))
+      ]

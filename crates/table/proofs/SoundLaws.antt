@@ -3,6 +3,7 @@ use Prim.Native.Nat.{ℕ, zero, suc, _+_, _≤_, _<_}
 use mathlib.Core.Path.{_≡_, refl, sym}
 use mathlib.Core.Bool.{Bool, true, false, _&&_, false≢true}
 use mathlib.Core.List.{List}
+use mathlib.Core.Logic.{_⊎_, inl, inr, ⊎-elim}
 use native.Mathlib.Omega.{arith}
 use native.Mathlib.Numerals.{add-one}
 use native.Mathlib.Decide.{decLt}
@@ -10,14 +11,18 @@ use lib.Dec.{leb, eqb}
 use borrow.Author.Tests.{le-leb, leb-true, eqb-true}
 use Rattle.table.specs.declared.slots.Node.{Node}
 use Rattle.table.specs.declared.slots.Node.the-variants.{Leaf, Stem, Fork}
-use Rattle.table.specs.Slots.{room, firstWord, secondWord, firstAt, secondAt, nodeOf, nodeAt, putNode, Below}
-use Rattle.table.specs.Sound.{slotSound, sound}
+use Rattle.table.specs.Slots.{room, firstWord, secondWord, firstAt, secondAt, nodeOf, nodeAt, putNode, Below, SameSlots}
+use Rattle.table.specs.Sound.{slotSound, soundAt, sound}
 use Rattle.table.specs.Holds.{Has}
 use Rattle.table.proofs.SlotLaws.{put-here, first-other, second-other}
 
 both-true : (a b : Bool) → a && b ≡ true → (a ≡ true) × (b ≡ true)
 both-true true b e = (refl, e)
 both-true false b e = absurd (false≢true e)
+
+one-false : (a b : Bool) → a && b ≡ false → (a ≡ false) ⊎ (b ≡ false)
+one-false true b e = inr e
+one-false false b e = inl e
 
 -- the bounds of sound words: none is above the slot, and from slot 1 on the first is above 0
 record Bounds (i p q : ℕ) : Type 0 where
@@ -90,12 +95,29 @@ module _ (w : List ℕ) (n : ℕ) (good : sound w n ≡ true) where
       let b = slot-sound w n good 0 h in
       record { first = omega (arith, b .first); second = omega (arith, b .second) }
 
-sound-under : (w : List ℕ) (i : ℕ) (node : Node) (n : ℕ) → n ≤ i → sound (putNode w i node) n ≡ sound w n
+-- where the test fails, some slot is not sound
+pub sound-breaks : (w : List ℕ) (n : ℕ) → sound w n ≡ false →
+    (i : ℕ) × (i < n) × (soundAt w i ≡ false)
 unfolding sound
-sound-under w i node zero h = refl
-sound-under w i node (suc n) h =
-    let l : n ≡ i → ⊥ = omega arith in
-    rw (sound-under w i node n (omega arith), first-other w i node n l, second-other w i node n l)
+sound-breaks w zero e = absurd (false≢true (sym e))
+sound-breaks w (suc n) e =
+    ⊎-elim
+    (λ h. let s = sound-breaks w n h in (s .0, omega (arith, s .1), s .2))
+    (λ h. (n, omega arith, h))
+    (one-false (sound w n) (slotSound n (firstAt w n) (secondAt w n)) e)
+
+-- tables with the same words in the first n slots are sound alike
+pub sound-same : (w v : List ℕ) (n : ℕ) → SameSlots n w v → sound w n ≡ sound v n
+unfolding sound
+sound-same w v zero h = refl
+sound-same w v (suc n) h =
+    let e = h n (omega arith) in
+    rw (sound-same w v n (λ i l. h i (omega arith)), e .0, e .1)
+
+sound-under : (w : List ℕ) (i : ℕ) (node : Node) (n : ℕ) → n ≤ i → sound (putNode w i node) n ≡ sound w n
+sound-under w i node n h =
+    sound-same (putNode w i node) w n
+    (λ k l. let o : k ≡ i → ⊥ = omega arith in (first-other w i node k o, second-other w i node k o))
 
 within : (n p q : ℕ) → 0 < n → 0 < p → p ≤ n → q ≤ n → slotSound n p q ≡ true
 unfolding slotSound

@@ -18,47 +18,47 @@ unfoldable pub frameRoom : List ℕ → ℕ
 frameRoom j = atMost maxFrames (length j / frameWidth)
 
 -- the three words of a frame
-pub record Words : Type 0 where
+pub record Record : Type 0 where
   pub tag : ℕ
   pub first : ℕ
   pub second : ℕ
 
 -- "then b to x" is (1, b, x), "then the result to v" (2, v, 0), "then w to the result" (3, w, 0)
-abbrev pub wordsOf : Frame → Words
-wordsOf (Operand b x) = record { tag = 1; first = b .0; second = x .0 }
-wordsOf (Argument v) = record { tag = 2; first = v .0; second = 0 }
-wordsOf (Function w) = record { tag = 3; first = w .0; second = 0 }
+abbrev pub recordOf : Frame → Record
+recordOf (Operand b x) = record { tag = 1; first = b .0; second = x .0 }
+recordOf (Argument v) = record { tag = 2; first = v .0; second = 0 }
+recordOf (Function w) = record { tag = 3; first = w .0; second = 0 }
 
 -- no frame
-abbrev pub none : Words
+abbrev pub none : Record
 none = record { tag = 0; first = 0; second = 0 }
 
 -- the frame of three words; no sound frame has another tag than 1, 2 and 3
 abbrev pub frameOf : ℕ → ℕ → ℕ → Frame
 frameOf tag a b = cond (eqb tag 1) (Operand (slot a) (slot b)) (cond (eqb tag 2) (Argument (slot a)) (Function (slot a)))
 
-unfoldable pub wordsAt : List ℕ → ℕ → Words
-wordsAt j k =
+unfoldable pub recordAt : List ℕ → ℕ → Record
+recordAt j k =
     record {
       tag = getD j (frameWidth * k) 0;
       first = getD j (frameWidth * k + 1) 0;
       second = getD j (frameWidth * k + 2) 0;
     }
 
-unfoldable pub putWords : List ℕ → ℕ → Words → List ℕ
-putWords j k v =
+unfoldable pub putRecord : List ℕ → ℕ → Record → List ℕ
+putRecord j k v =
     set (set (set j (frameWidth * k) (v .tag)) (frameWidth * k + 1) (v .first)) (frameWidth * k + 2) (v .second)
 
 -- the frame at place k
 unfoldable pub frameAt : List ℕ → ℕ → Frame
-frameAt j k = frameOf (wordsAt j k .tag) (wordsAt j k .first) (wordsAt j k .second)
+frameAt j k = frameOf (recordAt j k .tag) (recordAt j k .first) (recordAt j k .second)
 
 -- the table with a frame written at place k, and with the frame at place k gone
 unfoldable pub putFrame : List ℕ → ℕ → Frame → List ℕ
-putFrame j k f = putWords j k (wordsOf f)
+putFrame j k f = putRecord j k (recordOf f)
 
 unfoldable pub dropFrame : List ℕ → ℕ → List ℕ
-dropFrame j k = putWords j k none
+dropFrame j k = putRecord j k none
 
 -- the table with no frame: every word is 0
 unfoldable pub cleared : List ℕ → List ℕ

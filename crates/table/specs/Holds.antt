@@ -9,7 +9,7 @@ use Rattle.table.specs.declared.slots.Node.{Node}
 use Rattle.table.specs.declared.slots.Node.the-variants.{Leaf, Stem, Fork}
 use Rattle.table.specs.declared.frames.Frame.the-variants.{Operand, Argument, Function}
 use Rattle.table.specs.Slots.{width, slot, firstWord, secondWord, firstAt, secondAt}
-use Rattle.table.specs.Frames.{frameWidth, Words, wordsOf, wordsAt}
+use Rattle.table.specs.Frames.{frameWidth, Record, recordOf, recordAt}
 
 -- slot i has the words of this node
 pub record Has (w : List ℕ) (i : ℕ) (n : Node) : Type 0 where
@@ -39,16 +39,16 @@ pub record Untouched (w : List ℕ) (n : ℕ) (v : List ℕ) (m : ℕ) : Type 0 
   pub over : (k : ℕ) → width * m ≤ k → getD v k 0 ≡ getD w k 0
 
 -- three words stand for a frame of trees
-pub data Stands (w : List ℕ) (n : ℕ) (v : Words) : Frame → Type 0 where
-  stands-operand : {a b : ℕ} {t u : Tree} → v ≡ wordsOf (Operand (slot a) (slot b))
+pub data Stands (w : List ℕ) (n : ℕ) (v : Record) : Frame → Type 0 where
+  stands-operand : {a b : ℕ} {t u : Tree} → v ≡ recordOf (Operand (slot a) (slot b))
       → Holds w n a t → Holds w n b u → Stands w n v (operand t u)
-  stands-argument : {a : ℕ} {t : Tree} → v ≡ wordsOf (Argument (slot a)) → Holds w n a t → Stands w n v (argument t)
-  stands-function : {a : ℕ} {t : Tree} → v ≡ wordsOf (Function (slot a)) → Holds w n a t → Stands w n v (function t)
+  stands-argument : {a : ℕ} {t : Tree} → v ≡ recordOf (Argument (slot a)) → Holds w n a t → Stands w n v (argument t)
+  stands-function : {a : ℕ} {t : Tree} → v ≡ recordOf (Function (slot a)) → Holds w n a t → Stands w n v (function t)
 
 -- the places from k on stand for these frames, oldest first
 abbrev pub StandFrom : List ℕ → ℕ → List ℕ → ℕ → List Frame → Type 0
 StandFrom w n j k [] = Unit {0}
-StandFrom w n j k (f ∷ fs) = Stands w n (wordsAt j k) f × StandFrom w n j (suc k) fs
+StandFrom w n j k (f ∷ fs) = Stands w n (recordAt j k) f × StandFrom w n j (suc k) fs
 
 -- every word from place k on is 0
 abbrev pub ZeroFrom : List ℕ → ℕ → Type 0

@@ -1,5 +1,6 @@
 -- Slots: slot i of the part of the table that is ours is its words 2i and 2i + 1.
 use Prim.Native.Nat.{ℕ, zero, suc, _+_, _*_, _/_, _<_}
+use mathlib.Core.Path.{_≡_}
 use mathlib.Core.Bool.{cond}
 use mathlib.Core.List.{List}
 use lib.ListN.{length, getD, set}
@@ -68,3 +69,7 @@ abbrev pub Below : ℕ → Node → Type 0
 Below i Leaf = Unit {0}
 Below i (Stem a) = a .0 < i
 Below i (Fork a b) = (a .0 < i) × (b .0 < i)
+
+-- the first n slots of two tables have the same words
+abbrev pub SameSlots : ℕ → List ℕ → List ℕ → Type 0
+SameSlots n w v = (i : ℕ) → i < n → (firstAt w i ≡ firstAt v i) × (secondAt w i ≡ secondAt v i)

@@ -11,10 +11,13 @@ unfoldable pub slotSound : ℕ → ℕ → ℕ → Bool
 slotSound zero p q = eqb p 0 && eqb q 0
 slotSound (suc i) p q = leb 1 p && (leb p (suc i) && leb q (suc i))
 
+abbrev pub soundAt : List ℕ → ℕ → Bool
+soundAt w i = slotSound i (firstAt w i) (secondAt w i)
+
 -- the first n slots are sound
 unfoldable pub sound : List ℕ → ℕ → Bool
 sound w zero = true
-sound w (suc i) = sound w i && slotSound i (firstAt w i) (secondAt w i)
+sound w (suc i) = sound w i && soundAt w i
 
 -- the first n slots of a table, within its room, sound: what a run works on
 pub record Sound (w : List ℕ) (n : ℕ) : Type 0 where

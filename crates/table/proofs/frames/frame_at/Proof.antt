@@ -2,7 +2,7 @@
 use native.Mathlib.Omega.{arith}
 use borrow.Author.Tests.{eq-eqb, ne-eqb}
 use borrow.Author.Needs.{needs}
-use Rattle.table.specs.Frames.{frameRoom, wordsAt, frameAt}
+use Rattle.table.specs.Frames.{frameRoom, recordAt, frameAt}
 use Rattle.table.proofs.frames.frame_at.Statement.{statement}
 use Rattle.table.proofs.frames.frame_at.Tie as tie
 
@@ -37,15 +37,15 @@ unfolding frameRoom
 shared-slice-read-t16 c = omega arith
 
 returns : tie.Need-returns
-unfolding frameAt wordsAt
+unfolding frameAt recordAt
 returns c = simp (eq-eqb _ _ (c .before .if1 .taken))
 
 returns-2 : tie.Need-returns-2
-unfolding frameAt wordsAt
+unfolding frameAt recordAt
 returns-2 c = simp (ne-eqb _ _ (c .before .if1 .left), eq-eqb _ _ (c .if2 .taken))
 
 returns-3 : tie.Need-returns-3
-unfolding frameAt wordsAt
+unfolding frameAt recordAt
 returns-3 c = simp (ne-eqb _ _ (c .before .if1 .left), ne-eqb _ _ (c .if2 .left))
 
 pub frame-at-spec : {M : Type 1} → statement M

@@ -2,7 +2,7 @@
 use native.Mathlib.Omega.{arith}
 use lib.ListN.{length-set}
 use borrow.Author.Needs.{needs}
-use Rattle.table.specs.Frames.{frameRoom, putWords}
+use Rattle.table.specs.Frames.{frameRoom, putRecord}
 use Rattle.table.proofs.frames.put_record.Statement.{statement}
 use Rattle.table.proofs.frames.put_record.Tie as tie
 
@@ -40,7 +40,7 @@ same-length : tie.Need-same-length
 same-length c = search needs
 
 returns : tie.Need-returns
-unfolding putWords
+unfolding putRecord
 returns c = search needs
 
 pub put-record-spec : {M : Type 1} → statement M

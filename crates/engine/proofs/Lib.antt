@@ -1,0 +1,4 @@
+pub mod Keeps
+pub mod StepWays
+pub mod SpinWays
+pub mod CallWays

@@ -1,0 +1,89 @@
+-- The ways through a meeting and through a step.
+use Prim.Native.Nat.{ℕ, zero, suc, _+_, _-_, _≤_, _<_}
+use mathlib.Core.Path.{_≡_, refl, ap, _∙_}
+use mathlib.Core.List.{List}
+use native.Mathlib.Omega.{arith}
+use native.Mathlib.Numerals.{sub-one}
+use borrow.Author.Tests.{lt-ltb, le-ltb}
+use Rattle.table.specs.declared.slots.Slot.{Slot}
+use Rattle.table.specs.declared.slots.Node.{Node}
+use Rattle.table.specs.declared.frames.Frame.{Frame}
+use Rattle.table.specs.declared.frames.Frame.the-variants.{Operand, Argument, Function}
+use Rattle.table.specs.Slots.{slot, room, putNode}
+use Rattle.table.specs.Frames.{frameRoom, frameAt, putFrame, dropFrame}
+use Rattle.engine.specs.declared.rules.Action.{Action}
+use Rattle.engine.specs.declared.rules.Action.the-variants.{Make, Give, Go, Push}
+use Rattle.engine.specs.declared.step.State.{State}
+use Rattle.engine.specs.declared.step.Status.the-variants.{NoSlot, NoPlace}
+use Rattle.engine.specs.declared.step.Turn.{Turn}
+use Rattle.engine.specs.Rules.{rule}
+use Rattle.engine.specs.Step.{going, done, stop, met, meetFrame, meet, at, beside, carry, step}
+
+frame-met : (j : List ℕ) (t : Slot) (used waiting : ℕ) (f : Frame) → (waiting ≡ 0 → ⊥) →
+    f ≡ frameAt j (waiting - 1) → meetFrame j t used (waiting - 1) f ≡ meet j t used waiting
+unfolding meet
+frame-met j t used zero f h e = absurd (h refl)
+frame-met j t used (suc k) f h e = rw (e, sub-one)
+
+-- slot t meets no frame,
+module _ (j : List ℕ) (t : Slot) (used waiting : ℕ) (r : Turn) where
+  pub meet-none : waiting ≡ 0 → r ≡ done t used → met j r ≡ meet j t used waiting
+  unfolding meet
+  meet-none h e = rw (h, e)
+
+  module _ (some : waiting ≡ 0 → ⊥) (f : Frame) (ef : f ≡ frameAt j (waiting - 1)) (j′ : List ℕ) where
+    frame-is : {g : Frame} → f ≡ g → meetFrame j t used (waiting - 1) g ≡ meet j t used waiting
+    frame-is e = rw (← e) (frame-met j t used waiting f some ef)
+
+    -- or one of the three
+    pub meet-operand : (b x : Slot) → f ≡ Operand b x → j′ ≡ putFrame j (waiting - 1) (Function t) →
+        r ≡ going b x used waiting → met j′ r ≡ meet j t used waiting
+    unfolding meetFrame
+    meet-operand b x e ej er =
+        let s : suc (waiting - 1) ≡ waiting = omega (arith, some) in
+        cc (frame-is e)
+
+    pub meet-argument : (v : Slot) → f ≡ Argument v → j′ ≡ dropFrame j (waiting - 1) →
+        r ≡ going t v used (waiting - 1) → met j′ r ≡ meet j t used waiting
+    unfolding meetFrame
+    meet-argument v e ej er = rw (ej, er) (frame-is e)
+
+    pub meet-function : (v : Slot) → f ≡ Function v → j′ ≡ dropFrame j (waiting - 1) →
+        r ≡ going v t used (waiting - 1) → met j′ r ≡ meet j t used waiting
+    unfolding meetFrame
+    meet-function v e ej er = rw (ej, er) (frame-is e)
+
+-- each action, with room for it or without
+module _ (w j : List ℕ) (s : State) (a : Action) (chosen : a ≡ rule w (s .f) (s .x)) (r : Turn) where
+  carried : {b : Action} → a ≡ b → carry w j s b ≡ step w j s
+  unfolding step
+  carried e = rw (← chosen, e)
+
+  module _ (n : Node) (most : ℕ) (e : a ≡ Make n) (m : most ≡ room w) where
+    pub step-make : (w′ j′ : List ℕ) → s .used < most → w′ ≡ putNode w (s .used) n →
+        met j′ r ≡ meet j (slot (s .used)) (s .used + 1) (s .waiting) → at w′ j′ r ≡ step w j s
+    unfolding carry
+    step-make w′ j′ h ew ej = rw ew (ap (beside _) ej ∙ (simp (← m, lt-ltb _ _ h)) ∙ carried e)
+
+    pub step-full : most ≤ s .used → r ≡ stop NoSlot s → at w j r ≡ step w j s
+    unfolding carry
+    step-full h er = rw er ((simp (← m, le-ltb _ _ h)) ∙ carried e)
+
+  pub step-give : (t : Slot) (j′ : List ℕ) → a ≡ Give t → met j′ r ≡ meet j t (s .used) (s .waiting) →
+      at w j′ r ≡ step w j s
+  unfolding carry
+  step-give t j′ e ej = ap (beside _) ej ∙ carried e
+
+  pub step-go : (f x : Slot) → a ≡ Go f x → r ≡ going f x (s .used) (s .waiting) → at w j r ≡ step w j s
+  unfolding carry
+  step-go f x e er = rw er (carried e)
+
+  module _ (f x : Slot) (k : Frame) (most : ℕ) (e : a ≡ Push f x k) (m : most ≡ frameRoom j) where
+    pub step-push : (j′ : List ℕ) → s .waiting < most → j′ ≡ putFrame j (s .waiting) k →
+        r ≡ going f x (s .used) (s .waiting + 1) → at w j′ r ≡ step w j s
+    unfolding carry
+    step-push j′ h ej er = rw (ej, er) ((simp (← m, lt-ltb _ _ h)) ∙ carried e)
+
+    pub step-no-place : most ≤ s .waiting → r ≡ stop NoPlace s → at w j r ≡ step w j s
+    unfolding carry
+    step-no-place h er = rw er ((simp (← m, le-ltb _ _ h)) ∙ carried e)

@@ -1,0 +1,11 @@
+pub mod Calls
+pub mod Simulates
+pub mod RunSimulates
+pub mod Verdict
+pub mod RefusalKeeps
+pub mod RefusedExactly
+pub mod BaseBlind
+pub mod SameSteps
+pub mod DoneStays
+pub mod OneStore
+pub mod SessionSimulates

@@ -1,0 +1,146 @@
+-- How a call is judged: each refusal with its reason, and none of the reasons where a run starts.
+use Prim.Native.Nat.{ℕ, zero, suc, _≤_, _<_}
+use mathlib.Core.Path.{_≡_, refl, sym, _∙_}
+use mathlib.Core.Bool.{Bool, true, false, cond, false≢true}
+use mathlib.Core.List.{List}
+use mathlib.Core.Logic.{_⊎_, inl, inr, ⊎-elim}
+use native.Mathlib.Omega.{arith}
+use native.Mathlib.Decide.{decLt}
+use lib.ListN.{length, take, drop, take-append-drop}
+use lib.Dec.{ltb, eqb}
+use lib.IntN.{ℤ, pos, negsuc}
+use borrow.Author.Tests.{ltb-true, ltb-false, eqb-true, eqb-false}
+use Rattle.table.specs.declared.slots.Slot.{Slot}
+use Rattle.table.specs.declared.slots.Place.{Place}
+use Rattle.table.specs.declared.slots.Place.the-variants.{At, Nowhere}
+use Rattle.table.specs.Slots.{room, place}
+use Rattle.table.specs.Sound.{sound}
+use Rattle.table.specs.Frames.{cleared}
+use Rattle.table.proofs.SlotLaws.{place-in, place-at}
+use Rattle.table.proofs.SoundTest.{sound-broken}
+use Rattle.table.proofs.SoundLaws.{sound-breaks}
+use Rattle.engine.specs.declared.step.State.{State}
+use Rattle.engine.specs.declared.step.Status.{Status}
+use Rattle.engine.specs.declared.step.Status.the-variants.{Going, Done as IsDone, NoSlot, NoPlace}
+use Rattle.engine.specs.declared.Admission.{Admission}
+use Rattle.engine.specs.declared.Admission.the-variants.{Refused as NotLet, Start}
+use Rattle.engine.specs.declared.RunAnswer.the-variants.{Refused, Done, Stopped}
+use Rattle.engine.specs.Step.{Stepped, at, step}
+use Rattle.engine.specs.Run.{Ran, ran, resumeAs, resume, spin, admitAt, admit, start, runTail, behind, run}
+use Rattle.guarantees.specs.Run.{OutOfTable, base-negative, base-past, none-used, above-room}
+use Rattle.guarantees.specs.Run.{Misplaced, negative, not-used, Damaged}
+
+-- ---- a run that starts is not refused
+
+-- the answer is no refusal
+abbrev pub Unrefused : Ran → Type 0
+Unrefused (ran w j (Refused n)) = ⊥
+Unrefused (ran w j (Done slot steps used)) = Unit {0}
+Unrefused (ran w j (Stopped n f x steps used waiting)) = Unit {0}
+
+behind-unrefused : (before : List ℕ) (r : Ran) → Unrefused r → Unrefused (behind before r)
+behind-unrefused before (ran w j (Refused n)) h = h
+behind-unrefused before (ran w j (Done slot steps used)) h = h
+behind-unrefused before (ran w j (Stopped n f x steps used waiting)) h = h
+
+module _ (rest : ℕ → List ℕ → List ℕ → State → Ran)
+    (goes : (k : ℕ) (w j : List ℕ) (s : State) → Unrefused (rest k w j s)) (k : ℕ) (s : State) where
+  status-unrefused : (w j : List ℕ) (next : State) (t : Status) → Unrefused (resumeAs rest k s w j next t)
+  status-unrefused w j next Going = goes (suc k) w j next
+  status-unrefused w j next IsDone = tt
+  status-unrefused w j next NoSlot = tt
+  status-unrefused w j next NoPlace = tt
+
+  resume-unrefused : (t : Stepped) → Unrefused (resume rest k s t)
+  resume-unrefused (at w j t) = status-unrefused w j (t .state) (t .status)
+
+spin-unrefused : (fuel k : ℕ) (w j : List ℕ) (s : State) → Unrefused (spin fuel k w j s)
+unfolding spin
+spin-unrefused zero k w j s = tt
+spin-unrefused (suc n) k w j s = resume-unrefused (spin n) (spin-unrefused n) k s (step w j s)
+
+start-unrefused : (before w j : List ℕ) (fuel : ℕ) (s : State) → Unrefused (behind before (start w fuel j (Start s)))
+unfolding start
+start-unrefused before w j fuel s =
+    behind-unrefused before (spin fuel 0 w (cleared j) s) (spin-unrefused fuel 0 w (cleared j) s)
+
+-- ---- which slots are misplaced
+
+nowhere-misplaced : (z : ℤ) (used : ℕ) → place z used ≡ Nowhere → Misplaced used z
+nowhere-misplaced (negsuc i) used e = negative
+nowhere-misplaced (pos i) used e =
+    elim (decLt i used) [
+      | yes h ↦ let p = place-in {z = pos i} refl h in let z : _≡_ {A = ℕ} 0 1 = cc in absurd (omega arith)
+      | no h ↦ not-used {i = i} (omega (arith, h))
+    ]
+
+used-placed : {used n : ℕ} {z : ℤ} → z ≡ pos n → n < used → Misplaced used z → ⊥
+used-placed e h negative = let z : _≡_ {A = ℕ} 0 1 = cc in omega arith
+used-placed {n = n} e h (not-used {i = i} l) = let q : i ≡ n = cc in omega arith
+
+placed-well : (z : ℤ) (used : ℕ) (s : Slot) → place z used ≡ At s → Misplaced used z → ⊥
+placed-well z used s e = let p = place-at z used s e in used-placed (p .0) (p .1)
+
+-- ---- the verdict
+
+-- what a call comes to, where A, B and C are the reasons of 21, 23 and 24
+pub data Verdict (w j : List ℕ) (A B C : Type 0) : Ran → Type 0 where
+  out : A → Verdict w j A B C (ran w j (Refused 21))
+  misplaced : (A → ⊥) → B → Verdict w j A B C (ran w j (Refused 23))
+  damaged : (A → ⊥) → (B → ⊥) → C → Verdict w j A B C (ran w j (Refused 24))
+  started : {r : Ran} → (A → ⊥) → (B → ⊥) → (C → ⊥) → Unrefused r → Verdict w j A B C r
+
+-- the verdict by a call's own reasons
+abbrev pub Judged : List ℕ → List ℕ → ℤ → ℤ → ℤ → ℕ → Ran → Type 0
+Judged w j base f x used =
+    Verdict w j (OutOfTable w base used) (Misplaced used f ⊎ Misplaced used x) (Damaged w base used)
+
+-- what holds both ways of a test holds of what it picks
+by-test : {A : Type 0} (P : A → Type 0) (b : Bool) {x y : A} → (b ≡ true → P x) → (b ≡ false → P y) → P (cond b x y)
+by-test P true h k = h refl
+by-test P false h k = k refl
+
+module _ (w j : List ℕ) (b : ℕ) (f x : ℤ) (used fuel : ℕ) where
+  -- the verdict on a call whose base is in the table, by whether its run is let start
+  abbrev Comes : Admission → Type 0
+  Comes a = Judged w j (pos b) f x used (behind (take b w) (start (drop b w) fuel j a))
+
+  -- a refusal leaves the table whole
+  refused : (n : ℕ) → Judged w j (pos b) f x used (ran w j (Refused n)) → Comes (NotLet n)
+  unfolding start
+  refused n v = rw (take-append-drop b w) v
+
+  module _ (inside : b ≤ length w) (some : used ≡ 0 → ⊥) (fits : used ≤ room (drop b w)) where
+    not-out : OutOfTable w (pos b) used → ⊥
+    not-out (base-past h) = omega arith
+    not-out (none-used h) = some h
+    not-out (above-room h) = omega arith
+
+    admitted-at : (p q : Place) → place f used ≡ p → place x used ≡ q → Comes (admitAt (drop b w) used p q)
+    unfolding admitAt
+    admitted-at Nowhere q e g = refused 23 (misplaced not-out (inl (nowhere-misplaced f used e)))
+    admitted-at (At s) Nowhere e g = refused 23 (misplaced not-out (inr (nowhere-misplaced x used g)))
+    admitted-at (At s) (At t) e g =
+        let well : Misplaced used f ⊎ Misplaced used x → ⊥ = ⊎-elim (placed-well f used s e) (placed-well x used t g) in
+        by-test Comes (sound (drop b w) used)
+        (λ h. started not-out well
+        (λ d. false≢true (sym (sound-broken (drop b w) (d .0) used (d .1) (d .2)) ∙ h))
+        (start-unrefused (take b w) (drop b w) j fuel (record { f = s; x = t; used = used; waiting = 0 })))
+        (λ h. refused 24 (damaged not-out well (sound-breaks (drop b w) used h)))
+
+  admitted : b ≤ length w → Comes (admit (drop b w) f x used)
+  unfolding admit
+  admitted inside =
+      by-test Comes (eqb used 0) (λ e. refused 21 (out (none-used (eqb-true used 0 e))))
+      (λ e. by-test Comes (ltb (room (drop b w)) used)
+      (λ h. refused 21 (out (above-room (ltb-true (room (drop b w)) used h))))
+      (λ h. admitted-at inside (eqb-false used 0 e) (ltb-false (room (drop b w)) used h)
+      (place f used) (place x used) refl refl))
+
+-- every call has its verdict
+pub verdict : (w j : List ℕ) (base f x : ℤ) (used fuel : ℕ) → Judged w j base f x used (run w base f x used fuel j)
+unfolding run runTail
+verdict w j (negsuc b) f x used fuel = out base-negative
+verdict w j (pos b) f x used fuel =
+    by-test (Judged w j (pos b) f x used) (ltb (length w) b) (λ h. out (base-past (ltb-true (length w) b h)))
+    (λ h. admitted w j b f x used fuel (ltb-false (length w) b h))

@@ -1,0 +1,47 @@
+-- When what a run leaves and answers is what the reference machine comes to.
+use Prim.Native.Nat.{ℕ, _+_, _≤_}
+use mathlib.Core.Path.{_≡_}
+use mathlib.Core.List.{List}
+use lib.ListN.{length}
+use lib.IntN.{pos}
+use Rattle.calculus.specs.Tree.{Tree, leaf}
+use Rattle.calculus.specs.Rules.{Frame}
+use Rattle.calculus.specs.Machine.{Stop, stopNumber, ended, stopped, Outcome}
+use Rattle.table.specs.Frames.{frameRoom}
+use Rattle.table.specs.Sound.{Sound}
+use Rattle.table.specs.Holds.{Holds, HoldsFrom, Kept, Untouched, StandFrom, ZeroFrom}
+use Rattle.engine.specs.declared.RunAnswer.the-variants.{Done, Stopped}
+use Rattle.engine.specs.Answer.{Numbers, numbers}
+
+-- What a run leaves in the two tables. w is our part of the word table before it, of which n slots are used, and j the frame table that
+-- is lent; v and k are those after it, with m used slots and `waiting` frames.
+pub record Leaves (w : List ℕ) (n : ℕ) (j v : List ℕ) (m : ℕ) (k : List ℕ) (made : List Tree) (waiting : ℕ) : Type 0 where
+  -- the new slots hold the nodes made, in the order of making
+  pub new : HoldsFrom v m n made
+  -- the old slots hold what they held
+  pub old : Kept w n v m
+  -- all other words stay
+  pub untouched : Untouched w n v m
+  -- the used slots are sound, and slot zero is the leaf
+  pub slots : Sound v m
+  pub zero : Holds v m 0 leaf
+  -- no more frames wait than there is room for, and above them all words are 0
+  pub long : length k ≡ length j
+  pub places : waiting ≤ frameRoom k
+  pub above : ZeroFrom k waiting
+
+-- The tables and numbers that a run leaves and answers, and the machine's outcome: the same ending, number and steps; a used count that
+-- grows by the nodes made; slots and frames that stand for the machine's trees and frames, these oldest first.
+pub data Agrees (w : List ℕ) (n : ℕ) (j v k : List ℕ) : Numbers → Outcome → Type 0 where
+  agrees-done : {slot steps : ℕ} {t : Tree} {made : List Tree}
+      → Holds v (n + length made) slot t
+      → Leaves w n j v (n + length made) k made 0
+      → Agrees w n j v k (numbers (Done (pos slot) steps (n + length made)))
+      (record { ending = ended t; steps = steps; made = made })
+  agrees-stop : {f x steps : ℕ} {why : Stop} {ft xt : Tree} {frames : List Frame} {made : List Tree}
+      → Holds v (n + length made) f ft
+      → Holds v (n + length made) x xt
+      → StandFrom v (n + length made) k 0 frames
+      → Leaves w n j v (n + length made) k made (length frames)
+      → Agrees w n j v k (numbers (Stopped (stopNumber why) (pos f) (pos x) steps (n + length made) (length frames)))
+      (record { ending = stopped why ft xt frames; steps = steps; made = made })

@@ -1,0 +1,3 @@
+pub mod Agrees
+pub mod Run
+pub mod Session

@@ -1,0 +1,101 @@
+-- What the run call guarantees, for each call by itself. The proofs are in proofs/, a file for each statement.
+use Prim.Native.Nat.{ℕ, _+_, _-_, _≤_, _<_}
+use mathlib.Core.Path.{_≡_}
+use mathlib.Core.List.{List, _++_}
+use mathlib.Core.Bool.{false}
+use mathlib.Core.Logic.{_⊎_}
+use lib.ListN.{length, take, drop}
+use lib.IntN.{ℤ, pos, negsuc}
+use Rattle.calculus.specs.Tree.{Tree}
+use Rattle.calculus.specs.Machine as machine
+use Rattle.table.specs.Slots.{room, SameSlots}
+use Rattle.table.specs.Frames.{frameRoom}
+use Rattle.table.specs.Sound.{soundAt, Sound}
+use Rattle.table.specs.Holds.{Holds}
+use Rattle.engine.specs.declared.RunAnswer.{RunAnswer}
+use Rattle.engine.specs.declared.RunAnswer.the-variants.{Refused, Done}
+use Rattle.engine.specs.Run.{Ran, ran, run}
+use Rattle.engine.specs.Answer.{numbers}
+use Rattle.guarantees.specs.Agrees.{Agrees}
+
+-- A run on sound used slots is the reference machine's, on the trees that they hold: with the call's fuel, the room less the used slots, and the
+-- frame table's room. The words before the base stay.
+abbrev pub RunSimulates : Type 0
+RunSimulates =
+    (before w j : List ℕ) (used f x fuel : ℕ) (ft xt : Tree)
+    → Sound w used → Holds w used f ft → Holds w used x xt
+    → (v : List ℕ) × (k : List ℕ) × (a : RunAnswer)
+    × (run (before ++ w) (pos (length before)) (pos f) (pos x) used fuel j ≡ ran (before ++ v) k a)
+    × Agrees w used j v k (numbers a) (machine.run fuel (room w - used) (frameRoom j) (machine.start ft xt))
+
+-- A refusal has a number of the list and changes nothing.
+abbrev pub RefusalKeeps : Type 0
+RefusalKeeps =
+    (w v j k : List ℕ) (base f x : ℤ) (used fuel n : ℕ)
+    → run w base f x used fuel j ≡ ran v k (Refused n)
+    → (v ≡ w) × (k ≡ j) × ((n ≡ 21) ⊎ ((n ≡ 23) ⊎ (n ≡ 24)))
+
+-- 21: base negative or past the end of the table, or used count 0 or above room
+pub data OutOfTable (w : List ℕ) : ℤ → ℕ → Type 0 where
+  base-negative : {b used : ℕ} → OutOfTable w (negsuc b) used
+  base-past : {b used : ℕ} → length w < b → OutOfTable w (pos b) used
+  none-used : {base : ℤ} {used : ℕ} → used ≡ 0 → OutOfTable w base used
+  above-room : {b used : ℕ} → room (drop b w) < used → OutOfTable w (pos b) used
+
+-- 23: a slot is negative or not below the used count
+pub data Misplaced (used : ℕ) : ℤ → Type 0 where
+  negative : {i : ℕ} → Misplaced used (negsuc i)
+  not-used : {i : ℕ} → used ≤ i → Misplaced used (pos i)
+
+-- 24: some used slot is not sound
+abbrev pub Damaged : List ℕ → ℤ → ℕ → Type 0
+Damaged w (pos b) used =
+    (i : ℕ) × (i < used) × (soundAt (drop b w) i ≡ false)
+Damaged w (negsuc b) used = ⊥
+
+-- one holds exactly when the other does
+abbrev pub Exactly : Type 0 → Type 0 → Type 0
+Exactly A B = (A → B) × (B → A)
+
+-- A run is refused exactly when one of these holds, with the lowest number that applies.
+abbrev pub RefusedExactly : Type 0
+RefusedExactly =
+    (w j : List ℕ) (base f x : ℤ) (used fuel : ℕ)
+    → Exactly (run w base f x used fuel j ≡ ran w j (Refused 21)) (OutOfTable w base used)
+    × Exactly (run w base f x used fuel j ≡ ran w j (Refused 23))
+    ((OutOfTable w base used → ⊥) × (Misplaced used f ⊎ Misplaced used x))
+    × Exactly (run w base f x used fuel j ≡ ran w j (Refused 24))
+    ((OutOfTable w base used → ⊥) × (Misplaced used f → ⊥) × (Misplaced used x → ⊥) × Damaged w base used)
+
+-- two tables agree from the base on; where there is no base, nothing is asked of them
+abbrev pub SameFrom : ℤ → List ℕ → List ℕ → Type 0
+SameFrom (pos b) w w′ = (length w ≡ length w′) × (drop b w ≡ drop b w′)
+SameFrom (negsuc b) w w′ = Unit {0}
+
+-- the words before the base; where there is no base, all
+abbrev pub BeforeBase : ℤ → List ℕ → List ℕ
+BeforeBase (pos b) w = take b w
+BeforeBase (negsuc b) w = w
+
+-- what two calls leave and answer: the same answer and frame table, the same words from the base on, and before it those that were there
+abbrev pub SameRun : ℤ → List ℕ → List ℕ → Ran → Ran → Type 0
+SameRun base w w′ (ran v k a) (ran v′ k′ a′) =
+    (a ≡ a′) × (k ≡ k′) × SameFrom base v v′ × (BeforeBase base v ≡ BeforeBase base w) × (BeforeBase base v′ ≡ BeforeBase base w′)
+
+-- No word before the base is looked at or changed: whatever those words hold, all else comes out the same.
+abbrev pub BaseBlind : Type 0
+BaseBlind =
+    (w w′ j : List ℕ) (base f x : ℤ) (used fuel : ℕ)
+    → SameFrom base w w′
+    → SameRun base w w′ (run w base f x used fuel j) (run w′ base f x used fuel j)
+
+-- A done run stays done with at least as much fuel and room for slots and frames, on the same used slots, wherever they stand: the same
+-- result, steps and used count, and the same slots.
+abbrev pub DoneStays : Type 0
+DoneStays =
+    (before before′ w w′ v j j′ k : List ℕ) (f x slot : ℤ) (used used′ fuel fuel′ steps : ℕ)
+    → run (before ++ w) (pos (length before)) f x used fuel j ≡ ran (before ++ v) k (Done slot steps used′)
+    → SameSlots used w w′ → fuel ≤ fuel′ → room w ≤ room w′ → frameRoom j ≤ frameRoom j′
+    → (v′ : List ℕ) × (k′ : List ℕ)
+    × (run (before′ ++ w′) (pos (length before′)) f x used fuel′ j′ ≡ ran (before′ ++ v′) k′ (Done slot steps used′))
+    × SameSlots used′ v v′

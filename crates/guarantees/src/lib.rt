@@ -1,0 +1,1 @@
+// What the calls guarantee, as statements over their contracts' definitions: no code.

@@ -1,0 +1,177 @@
+// Makes the run call on each case of the input, and writes what it answers and the two tables that it leaves.
+ghost use Prim.Native.Nat.{_≤_};
+ghost use lib.ListN.{length};
+use engine::RunAnswer;
+use libc::STDOUT_FILENO;
+use std::num::wrapping_add_usize;
+use wire::Num;
+
+fn text(t: &[u8]) {
+    io::write_all(STDOUT_FILENO, t);
+}
+
+fn decimal(n: u32) {
+    io::print_decimal(STDOUT_FILENO, n as u64);
+}
+
+// A slot of an answer; none is negative.
+fn slot(i: i32) {
+    if i < 0 {
+        text(b"negative");
+        return;
+    }
+    io::print_decimal(STDOUT_FILENO, i as u64);
+}
+
+fn line(number: u32, result: i32, f: i32, x: i32, steps: u32, used: u32, waiting: u32) {
+    text(b"answer ");
+    decimal(number);
+    text(b" slot ");
+    slot(result);
+    text(b" f ");
+    slot(f);
+    text(b" x ");
+    slot(x);
+    text(b" steps ");
+    decimal(steps);
+    text(b" used ");
+    decimal(used);
+    text(b" waiting ");
+    decimal(waiting);
+    text(b"\n");
+}
+
+// The paper's numbers; those not named are 0.
+fn show_answer(a: RunAnswer) {
+    match a {
+        RunAnswer::Refused(number) => line(number, 0, 0, 0, 0, 0, 0),
+        RunAnswer::Done { slot, steps, used } => line(0, slot, 0, 0, steps, used, 0),
+        RunAnswer::Stopped {
+            number,
+            f,
+            x,
+            steps,
+            used,
+            waiting,
+        } => { line(number, 0, f, x, steps, used, waiting) }
+    }
+}
+
+fn show_table(name: &[u8], table: &[u32]) {
+    text(name);
+    let mut i = 0;
+    while i < table.len() {
+        text(b" ");
+        decimal(table[i]);
+        i += 1;
+    }
+    text(b"\n");
+}
+
+// The number at a place of the input; behind its end, 0.
+fn number(s: &[u8], at: usize) -> u32 {
+    let n = wire::u32_at(s, at);
+    match n {
+        Num::Value(v) => (v % 4294967296) as u32,
+        Num::Short => 0,
+    }
+}
+
+// A signed number is sent with 2^31 added.
+fn signed(n: u32) -> i32 {
+    if n < 2147483648 {
+        let below = (2147483647 - n) as i32;
+        return !below;
+    }
+    (n - 2147483648) as i32
+}
+
+// A table's length, and no more than there is room for.
+fn at_most(n: u32, most: usize) -> usize
+    ensures { λ r. ⌜ r ≤ most ⌝ }
+{
+    if (n as usize) < most {
+        n as usize
+    } else {
+        most
+    }
+}
+
+// Where the number stands that is n numbers behind a place.
+fn behind(at: usize, n: usize) -> usize
+    requires { ⌜ n ≤ 120 ⌝ }
+{
+    wrapping_add_usize(at, 4 * n)
+}
+
+// The numbers from a place on.
+fn fill(table: &mut [u32], s: &[u8], at: usize)
+    requires { ⌜ length (now table) ≤ 120 ⌝ }
+{
+    let mut i = 0;
+    while i < table.len() {
+        table[i] = number(s, behind(at, i));
+        i += 1;
+    }
+}
+
+// A case: a table, what is asked, and a job table, each table behind its length. Answers where the next case stands.
+fn show_case(s: &[u8], at: usize) -> usize {
+    let mut words: [u32; 120] = [0; 120];
+    let mut jobs: [u32; 24] = [0; 24];
+    let n = at_most(number(s, at), 120);
+    fill(&mut words[0..n], s, behind(at, 1));
+    let asked = behind(behind(at, 1), n);
+    let m = at_most(number(s, behind(asked, 5)), 24);
+    fill(&mut jobs[0..m], s, behind(asked, 6));
+    show_answer(engine::run(
+        &mut words[0..n],
+        signed(number(s, asked)),
+        signed(number(s, behind(asked, 1))),
+        signed(number(s, behind(asked, 2))),
+        number(s, behind(asked, 3)),
+        number(s, behind(asked, 4)),
+        &mut jobs[0..m],
+    ));
+    show_table(b"words", &words[0..n]);
+    show_table(b"jobs", &jobs[0..m]);
+    behind(behind(asked, 6), m)
+}
+
+fn show_cases(s: &[u8]) {
+    let mut at = 0;
+    while at < s.len() {
+        let next = show_case(s, at);
+        if next <= at {
+            return;
+        }
+        at = next;
+    }
+}
+
+// The identity I, and D, a fork of stem I and I, in the first six slots.
+fn put_d(words: &mut [u32; 131073]) {
+    let slots: [u32; 12] = [0, 0, 1, 0, 2, 0, 3, 1, 4, 0, 5, 4];
+    let mut i = 0;
+    while i < 12 {
+        words[i] = slots[i];
+        i += 1;
+    }
+}
+
+// D to D on a table of one slot more than the room's limit, and a word.
+fn show_full() {
+    let mut words: [u32; 131073] = [9; 131073];
+    let mut jobs: [u32; 6] = [8; 6];
+    put_d(&mut words);
+    show_answer(engine::run(&mut words, 0, 5, 5, 6, 4294967295, &mut jobs));
+    show_table(b"words", &words[131064..131073]);
+    show_table(b"jobs", &jobs);
+}
+
+fn main() {
+    let mut buf = io::large_buffer();
+    let n = io::read_full(0, &mut buf);
+    show_cases(&buf[..n]);
+    show_full();
+}
