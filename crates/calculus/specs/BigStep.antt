@@ -1,4 +1,5 @@
--- The calculus without a machine: f applied to x is t. One constructor for each of the seven rules; arguments first, left before right.
+-- The calculus without a machine: f applied to x is t. One constructor for each of the seven rules; arguments first,
+-- left before right.
 use Rattle.calculus.specs.Tree.{Tree, leaf, stem, fork}
 
 infix 4 _·_⇓_

@@ -1,10 +1,10 @@
 -- What holds of every run of the reference machine. The proofs are in proofs/, a file for each statement.
 use Prim.Native.Nat.{ℕ, _+_, _-_, _≤_}
 use mathlib.Core.Path.{_≡_}
-use mathlib.Core.List.{List, _++_, reverse}
+use mathlib.Core.List.{_++_, reverse}
 use lib.ListN.{length}
 use Rattle.calculus.specs.Tree.{Tree}
-use Rattle.calculus.specs.Machine.{State, start, Stop, no-fuel, no-slot, no-place, Ending, ended, stopped, Outcome, run}
+use Rattle.calculus.specs.Machine.{State, start, no-fuel, no-slot, no-place, Ending, ended, stopped, Outcome, run}
 use Rattle.calculus.specs.BigStep.{_·_⇓_}
 
 -- A run that is done stays done with at least as much of everything: the same tree, steps and nodes made.

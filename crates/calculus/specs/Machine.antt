@@ -1,4 +1,5 @@
--- The reference machine, the paper machine: it applies trees with an allowance of fuel, free slots and places for frames.
+-- The reference machine, the paper machine: it applies trees with an allowance of fuel, free slots and places for
+-- frames.
 use Prim.Native.Nat.{ℕ, zero, suc, _+_, _-_}
 use mathlib.Core.Bool.{cond}
 use mathlib.Core.List.{List, [], _∷_, _++_, reverse}

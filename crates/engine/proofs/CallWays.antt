@@ -23,7 +23,7 @@ use Rattle.engine.specs.declared.Admission.the-variants.{Refused as NotL
 use Rattle.engine.specs.declared.RunAnswer.{RunAnswer}
 use Rattle.engine.specs.declared.RunAnswer.the-variants.{Refused}
 use Rattle.engine.specs.Ready.{Ready, Waits}
-use Rattle.engine.specs.Run.{Ran, ran, spin, admitAt, admit, start, runTail, behind, run}
+use Rattle.engine.specs.Run.{Ran, ran, drive, admitAt, admit, start, runTail, behind, run}
 use Rattle.engine.proofs.Keeps.{by-test, waits-none}
 
 -- ---- the refusals
@@ -129,7 +129,7 @@ module _ (w j : List ℕ) (f x : ℤ) (used fuel : ℕ) (f′ x′ : ℤ) (ef : 
   tail-refused n h = tail h
 
   pub tail-started : (s : State) → a ≡ Start s → (j′ : List ℕ) → j′ ≡ cleared j → (n k : ℕ) → n ≡ fuel → k ≡ 0 →
-      (r : Ran) → r ≡ spin n k w j′ s → r ≡ runTail w f x used fuel j
+      (r : Ran) → r ≡ drive n k w j′ s → r ≡ runTail w f x used fuel j
   unfolding start
   tail-started s h j′ ej n k en ek r er = er ∙ (rw (ej, en, ek)) ∙ tail h
 

@@ -1,4 +1,4 @@
 pub mod Keeps
 pub mod StepWays
-pub mod SpinWays
+pub mod DriveWays
 pub mod CallWays

@@ -42,9 +42,9 @@ abbrev pub resume : (ℕ → List ℕ → List ℕ → State → Ran) → ℕ �
 resume rest k s (at w j t) = resumeAs rest k s w j (t .state) (t .status)
 
 -- the fuel left, the steps so far, both tables and the state
-unfoldable pub spin : ℕ → ℕ → List ℕ → List ℕ → State → Ran
-spin zero k w j s = ran w j (stopped 31 s k)
-spin (suc n) k w j s = resume (spin n) k s (step w j s)
+unfoldable pub drive : ℕ → ℕ → List ℕ → List ℕ → State → Ran
+drive zero k w j s = ran w j (stopped 31 s k)
+drive (suc n) k w j s = resume (drive n) k s (step w j s)
 
 -- ---- the refusals
 
@@ -66,7 +66,7 @@ admit w f x used =
 -- a refusal changes nothing; a run that is let start has its frame table zeroed first
 unfoldable pub start : List ℕ → ℕ → List ℕ → Admission → Ran
 start w fuel j (NotLet n) = ran w j (Refused n)
-start w fuel j (Start s) = spin fuel 0 w (cleared j) s
+start w fuel j (Start s) = drive fuel 0 w (cleared j) s
 
 -- on the part of the table that is ours
 unfoldable pub runTail : List ℕ → ℤ → ℤ → ℕ → ℕ → List ℕ → Ran

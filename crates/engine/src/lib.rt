@@ -3,7 +3,7 @@ ghost use mathlib.Core.Path.{_≡_};
 ghost use Prim.Native.Nat.{_+_, _<_, _^_};
 ghost use Rattle.table.specs.Limits.{maxSlots};
 ghost use Rattle.engine.specs.Ready.{Ready, Waits};
-ghost use Rattle.engine.specs.Run.{ran, finished, stopped, spin, admit, runTail, run};
+ghost use Rattle.engine.specs.Run.{ran, finished, stopped, drive, admit, runTail, run};
 use crate::fuel::Fuel;
 use crate::step::State;
 use crate::step::Status;
@@ -14,18 +14,20 @@ use table::slots::Slot;
 use table::slots::room;
 use table::slots::sound;
 
-pub mod fuel;
-pub mod rules;
-pub mod step;
+mod fuel;
+mod rules;
+mod step;
 
+// What a run answers; specs/Answer.antt gives the paper's numbers for each case.
 pub enum RunAnswer {
+    // By 21, 23 or 24.
     Refused(u32),
     Done {
         slot: i32,
         steps: u32,
         used: u32,
     },
-    // The f and x still to be applied, and how many frames wait.
+    // By 31, 32 or 33, with the f and x still to be applied and how many frames wait.
     Stopped {
         number: u32,
         f: i32,
@@ -71,9 +73,11 @@ fn stopped(number: u32, s: State, steps: u32) -> RunAnswer
 }
 
 // Steps from a state on until the run is done or stopped; the fuel has the steps so far.
-pub fn spin(words: &mut [u32], jobs: &mut [u32], start: State, fuel: Fuel) -> RunAnswer
-    requires { ⌜ Ready (now words) start × Waits (now jobs) (start .used) (start .waiting) × (fuel .left + fuel .spent < 2 ^ 32) ⌝ }
-    ensures { λ r. ⌜ ran (now (words .exit)) (now (jobs .exit)) r ≡ spin (fuel .left) (fuel .spent) (now (words .entry)) (now (jobs .entry)) start ⌝ }
+pub(crate) fn drive(words: &mut [u32], jobs: &mut [u32], start: State, fuel: Fuel) -> RunAnswer
+    requires { ⌜ Ready (now words) start × Waits (now jobs) (start .used) (start .waiting)
+        × (fuel .left + fuel .spent < 2 ^ 32) ⌝ }
+    ensures { λ r. ⌜ ran (now (words .exit)) (now (jobs .exit)) r
+        ≡ drive (fuel .left) (fuel .spent) (now (words .entry)) (now (jobs .entry)) start ⌝ }
 {
     let mut s = start;
     let mut purse = fuel;
@@ -87,7 +91,8 @@ pub fn spin(words: &mut [u32], jobs: &mut [u32], start: State, fuel: Fuel) -> Ru
                 purse = purse.spend();
             }
             Status::Done => {
-                return finished(next, purse.spent + 1);
+                let last = purse.spend();
+                return finished(next, last.spent);
             }
             Status::NoSlot => {
                 return stopped(32, s, purse.spent);
@@ -101,7 +106,7 @@ pub fn spin(words: &mut [u32], jobs: &mut [u32], start: State, fuel: Fuel) -> Ru
 }
 
 // 21, 23 and 24, in that order, or the state that a run starts from.
-pub fn admit(words: &[u32], f: i32, x: i32, used: u32) -> Admission
+pub(crate) fn admit(words: &[u32], f: i32, x: i32, used: u32) -> Admission
     ensures { λ r. ⌜ r ≡ admit (now (words .entry)) f x used ⌝ }
 {
     if used == 0 {
@@ -132,14 +137,15 @@ pub fn admit(words: &[u32], f: i32, x: i32, used: u32) -> Admission
 
 // The run on the part of the table that is ours.
 fn run_tail(words: &mut [u32], f: i32, x: i32, used: u32, fuel: u32, jobs: &mut [u32]) -> RunAnswer
-    ensures { λ r. ⌜ ran (now (words .exit)) (now (jobs .exit)) r ≡ runTail (now (words .entry)) f x used fuel (now (jobs .entry)) ⌝ }
+    ensures { λ r. ⌜ ran (now (words .exit)) (now (jobs .exit)) r
+        ≡ runTail (now (words .entry)) f x used fuel (now (jobs .entry)) ⌝ }
 {
     let admission = admit(words, f, x, used);
     match admission {
         Admission::Refused(number) => RunAnswer::Refused(number),
         Admission::Start(start) => {
             clear(jobs);
-            spin(words, jobs, start, Fuel::new(fuel))
+            drive(words, jobs, start, Fuel::new(fuel))
         }
     }
 }
@@ -154,7 +160,8 @@ pub fn run(
     fuel: u32,
     jobs: &mut [u32],
 ) -> RunAnswer
-    ensures { λ r. ⌜ ran (now (words .exit)) (now (jobs .exit)) r ≡ run (now (words .entry)) base f x used fuel (now (jobs .entry)) ⌝ }
+    ensures { λ r. ⌜ ran (now (words .exit)) (now (jobs .exit)) r
+        ≡ run (now (words .entry)) base f x used fuel (now (jobs .entry)) ⌝ }
 {
     if base < 0 {
         return RunAnswer::Refused(21);

@@ -49,7 +49,7 @@ fn on_fork(words: &[u32], g: Node, c: Slot, x: Slot) -> Action
 }
 
 // The rule that applies f to x.
-pub fn rule(words: &[u32], s: State) -> Action
+pub(crate) fn rule(words: &[u32], s: State) -> Action
     requires { ⌜ Ready (now words) s ⌝ }
     ensures { λ r. ⌜ r ≡ rule (now (words .entry)) (s .f) (s .x) ⌝ }
 {

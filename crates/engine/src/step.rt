@@ -96,7 +96,7 @@ fn meet(jobs: &mut [u32], t: Slot, used: u32, waiting: u32) -> Turn
 }
 
 // The body of the run's loop.
-pub fn step(words: &mut [u32], jobs: &mut [u32], s: State) -> Turn
+pub(crate) fn step(words: &mut [u32], jobs: &mut [u32], s: State) -> Turn
     requires { ⌜ Ready (now words) s × Waits (now jobs) (s .used) (s .waiting) ⌝ }
     ensures { λ r. ⌜ at (now (words .exit)) (now (jobs .exit)) r ≡ step (now (words .entry)) (now (jobs .entry)) s ⌝ }
 {

@@ -24,7 +24,7 @@ use Rattle.engine.specs.declared.Admission.{Admission}
 use Rattle.engine.specs.declared.RunAnswer.{RunAnswer}
 use Rattle.engine.specs.declared.RunAnswer.the-variants.{Refused, Done, Stopped}
 use Rattle.engine.specs.Step.{Stepped, at, step}
-use Rattle.engine.specs.Run.{Ran, ran, resumeAs, resume, spin, admitAt, admit, start, runTail, behind}
+use Rattle.engine.specs.Run.{Ran, ran, resumeAs, resume, drive, admitAt, admit, start, runTail, behind}
 use Rattle.engine.specs.Ready.{Ready, Waits}
 use Rattle.engine.proofs.Keeps.{by-test, Left, step-keeps, waits-none}
 use Rattle.guarantees.specs.Run.{DoneStays}
@@ -61,12 +61,12 @@ module _ (rest rest′ : ℕ → List ℕ → List ℕ → State → Ran) (alike
   resume-stays : (c c′ : Stepped) → Left c → Stays c c′ → Ends (resume rest k s c) (resume rest′ k s c′)
   resume-stays (at w j t) c′ left same = resumed w j t c′ left (t .status) refl same
 
-spin-stays : (n n′ : ℕ) → n ≤ n′ → Alike (spin n) (spin n′)
-unfolding spin
-spin-stays zero n′ h k w j w′ j′ s ready waits words frames = tt
-spin-stays (suc n) zero h k w j w′ j′ s ready waits words frames = absurd (omega arith)
-spin-stays (suc n) (suc n′) h k w j w′ j′ s ready waits words frames =
-    resume-stays (spin n) (spin n′) (spin-stays n n′ (omega arith)) k s (step w j s) (step w′ j′ s)
+drive-stays : (n n′ : ℕ) → n ≤ n′ → Alike (drive n) (drive n′)
+unfolding drive
+drive-stays zero n′ h k w j w′ j′ s ready waits words frames = tt
+drive-stays (suc n) zero h k w j w′ j′ s ready waits words frames = absurd (omega arith)
+drive-stays (suc n) (suc n′) h k w j w′ j′ s ready waits words frames =
+    resume-stays (drive n) (drive n′) (drive-stays n n′ (omega arith)) k s (step w j s) (step w′ j′ s)
     (step-keeps w j s ready waits) (step-stays w w′ j j′ s ready waits words frames)
 
 -- ---- the call
@@ -86,7 +86,7 @@ module _ (w w′ j j′ : List ℕ) (used fuel fuel′ : ℕ) (slots : SameSlots
       by-test (λ (a : Admission). Starts a (admitAt w′ used (At f) (At x))) (sound w used)
       (λ e.
       rw (sym (sound-same w w′ used slots) ∙ e)
-      (spin-stays fuel fuel′ h 0 w (cleared j) w′ (cleared j′) (record { f = f; x = x; used = used; waiting = 0 })
+      (drive-stays fuel fuel′ h 0 w (cleared j) w′ (cleared j′) (record { f = f; x = x; used = used; waiting = 0 })
       (record { slots = record { fits = l; sound = e }; f = hf f refl; x = hx x refl })
       (waits-none (cleared j) used)
       (record { slots = slots; rooms = rooms })

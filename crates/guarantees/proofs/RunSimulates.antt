@@ -18,12 +18,12 @@ use Rattle.table.proofs.FrameLaws.{frame-room-long, length-cleared, zero-cleare
 use Rattle.table.proofs.HoldsLaws.{held-below}
 use Rattle.engine.specs.declared.step.State.{State}
 use Rattle.engine.specs.declared.RunAnswer.{RunAnswer}
-use Rattle.engine.specs.Run.{Ran, ran, behind, spin, admitAt, admit, start, runTail}
+use Rattle.engine.specs.Run.{Ran, ran, behind, drive, admitAt, admit, start, runTail}
 use Rattle.engine.specs.Answer.{numbers}
 use Rattle.guarantees.specs.Agrees.{Agrees}
 use Rattle.guarantees.specs.Run.{RunSimulates}
 use Rattle.guarantees.proofs.Calls.{run-behind}
-use Rattle.guarantees.proofs.Simulates.{Sim, Comes, comes-long, spin-simulates}
+use Rattle.guarantees.proofs.Simulates.{Sim, Comes, comes-long, drive-simulates}
 
 module _ (w j : List ℕ) (used f x fuel : ℕ) (ft xt : Tree) (good : Sound w used) (hf : Holds w used f ft)
     (hx : Holds w used x xt) where
@@ -31,7 +31,7 @@ module _ (w j : List ℕ) (used f x fuel : ℕ) (ft xt : Tree) (good : Sound w u
   first = record { f = slot f; x = slot x; used = used; waiting = 0 }
 
   -- nothing refuses it
-  starts : runTail w (pos f) (pos x) used fuel j ≡ spin fuel 0 w (cleared j) first
+  starts : runTail w (pos f) (pos x) used fuel j ≡ drive fuel 0 w (cleared j) first
   unfolding runTail start admit admitAt
   starts =
       rw (
@@ -52,8 +52,8 @@ module _ (w j : List ℕ) (used f x fuel : ℕ) (ft xt : Tree) (good : Sound w u
       = record { slots = good; f = hf; x = hx; frames = tt; fits = omega arith; above = zero-cleared j }
       in
       rw (starts, ← frame-room-long j (cleared j) l, ← zero-add (o .steps))
-      (comes-long w j (cleared j) used l (spin fuel 0 w (cleared j) first) _
-      (spin-simulates fuel 0 w (cleared j) first (machine.start ft xt) sim))
+      (comes-long w j (cleared j) used l (drive fuel 0 w (cleared j) first) _
+      (drive-simulates fuel 0 w (cleared j) first (machine.start ft xt) sim))
 
 parts : (before w j : List ℕ) (used : ℕ) (r : Ran) (o : Outcome) → Comes w used j r o →
     (v : List ℕ) × (k : List ℕ) × (a : RunAnswer)

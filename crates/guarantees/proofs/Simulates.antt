@@ -36,7 +36,7 @@ use Rattle.engine.specs.declared.step.Status.the-variants.{Going, Done as IsDon
 use Rattle.engine.specs.declared.RunAnswer.the-variants.{Done, Stopped}
 use Rattle.engine.specs.Rules.{rule, onFunction, onFork, onArgument}
 use Rattle.engine.specs.Step.{Stepped, at, beside, meetFrame, meet, carry, step}
-use Rattle.engine.specs.Run.{Ran, ran, resume, spin}
+use Rattle.engine.specs.Run.{Ran, ran, resume, drive}
 use Rattle.engine.specs.Run as engine
 use Rattle.engine.specs.Answer.{Numbers, numbers}
 use Rattle.guarantees.specs.Agrees.{Leaves, Agrees, agrees-done, agrees-stop}
@@ -368,15 +368,15 @@ comes-long w j k n long r o h = comes-on w j w k n n [] (grown-none w n) long r 
 
 -- what a run with this much fuel comes to, k steps on, from any state that stands for one of the machine's: waiting
 -- frames and all
-abbrev pub SpinSimulates : ℕ → Type 0
-SpinSimulates fuel =
+abbrev pub DriveSimulates : ℕ → Type 0
+DriveSimulates fuel =
     (k : ℕ) (w j : List ℕ) (s : State) (p : machine.State) → Sim w j s p →
-    Comes w (s .used) j (spin fuel k w j s) (later k (machine.run fuel (room w - s .used) (frameRoom j) p))
+    Comes w (s .used) j (drive fuel k w j s) (later k (machine.run fuel (room w - s .used) (frameRoom j) p))
 
-module _ (fuel : ℕ) (spins : SpinSimulates fuel) (k : ℕ) (w j : List ℕ) (s : State) (p : machine.State)
+module _ (fuel : ℕ) (drives : DriveSimulates fuel) (k : ℕ) (w j : List ℕ) (s : State) (p : machine.State)
     (sim : Sim w j s p) where
   resumes : (c : Stepped) (t : machine.Turn) → Turns w j s c t →
-      Comes w (s .used) j (resume (spin fuel) k s c)
+      Comes w (s .used) j (resume (drive fuel) k s c)
       (later k (machine.proceed (machine.run fuel) (room w - s .used) (frameRoom j) p t))
   resumes c t (turns-going {v = v} {k = i} {next = next} {made = made} {p = q} grown long sim′) =
       let free : room v - next .used ≡ room w - s .used - length made
@@ -385,16 +385,16 @@ module _ (fuel : ℕ) (spins : SpinSimulates fuel) (k : ℕ) (w j : List ℕ) (s
       let o = machine.run fuel (room v - next .used) (frameRoom i) q in
       let e : suc k + o .steps ≡ k + suc (o .steps) = omega arith in
       rw (← free, ← frame-room-long j i long, ← e)
-      (comes-on w j v i (s .used) (next .used) made grown long (spin fuel (suc k) v i next) (later (suc k) o)
-      (spins (suc k) v i next q sim′))
+      (comes-on w j v i (s .used) (next .used) made grown long (drive fuel (suc k) v i next) (later (suc k) o)
+      (drives (suc k) v i next q sim′))
   resumes c t (turns-done e l h) = rw (← add-one k) (done-agrees e h l)
   resumes c t turns-no-slot = stops w j s p sim no-slot k
   resumes c t turns-no-place = stops w j s p sim no-place k
 
 -- a run on the two tables is the machine's
-pub spin-simulates : (fuel : ℕ) → SpinSimulates fuel
-unfolding spin machine.run
-spin-simulates zero k w j s p sim = stops w j s p sim no-fuel k
-spin-simulates (suc fuel) k w j s p sim =
-    resumes fuel (spin-simulates fuel) k w j s p sim (step w j s)
+pub drive-simulates : (fuel : ℕ) → DriveSimulates fuel
+unfolding drive machine.run
+drive-simulates zero k w j s p sim = stops w j s p sim no-fuel k
+drive-simulates (suc fuel) k w j s p sim =
+    resumes fuel (drive-simulates fuel) k w j s p sim (step w j s)
     (machine.step (room w - s .used) (frameRoom j) p) (steps w j s p sim)

@@ -26,7 +26,7 @@ use Rattle.engine.specs.declared.Admission.{Admission}
 use Rattle.engine.specs.declared.Admission.the-variants.{Refused as NotLet, Start}
 use Rattle.engine.specs.declared.RunAnswer.the-variants.{Refused, Done, Stopped}
 use Rattle.engine.specs.Step.{Stepped, at, step}
-use Rattle.engine.specs.Run.{Ran, ran, resumeAs, resume, spin, admitAt, admit, start, runTail, behind, run}
+use Rattle.engine.specs.Run.{Ran, ran, resumeAs, resume, drive, admitAt, admit, start, runTail, behind, run}
 use Rattle.guarantees.specs.Run.{OutOfTable, base-negative, base-past, none-used, above-room}
 use Rattle.guarantees.specs.Run.{Misplaced, negative, not-used, Damaged}
 
@@ -54,15 +54,15 @@ module _ (rest : ℕ → List ℕ → List ℕ → State → Ran)
   resume-unrefused : (t : Stepped) → Unrefused (resume rest k s t)
   resume-unrefused (at w j t) = status-unrefused w j (t .state) (t .status)
 
-spin-unrefused : (fuel k : ℕ) (w j : List ℕ) (s : State) → Unrefused (spin fuel k w j s)
-unfolding spin
-spin-unrefused zero k w j s = tt
-spin-unrefused (suc n) k w j s = resume-unrefused (spin n) (spin-unrefused n) k s (step w j s)
+drive-unrefused : (fuel k : ℕ) (w j : List ℕ) (s : State) → Unrefused (drive fuel k w j s)
+unfolding drive
+drive-unrefused zero k w j s = tt
+drive-unrefused (suc n) k w j s = resume-unrefused (drive n) (drive-unrefused n) k s (step w j s)
 
 start-unrefused : (before w j : List ℕ) (fuel : ℕ) (s : State) → Unrefused (behind before (start w fuel j (Start s)))
 unfolding start
 start-unrefused before w j fuel s =
-    behind-unrefused before (spin fuel 0 w (cleared j) s) (spin-unrefused fuel 0 w (cleared j) s)
+    behind-unrefused before (drive fuel 0 w (cleared j) s) (drive-unrefused fuel 0 w (cleared j) s)
 
 -- ---- which slots are misplaced
 

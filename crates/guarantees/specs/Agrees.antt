@@ -13,8 +13,8 @@ use Rattle.table.specs.Holds.{Holds, HoldsFrom, Kept, Untouched, StandFrom, Zer
 use Rattle.engine.specs.declared.RunAnswer.the-variants.{Done, Stopped}
 use Rattle.engine.specs.Answer.{Numbers, numbers}
 
--- What a run leaves in the two tables. w is our part of the word table before it, of which n slots are used, and j the frame table that
--- is lent; v and k are those after it, with m used slots and `waiting` frames.
+-- What a run leaves in the two tables. w is our part of the word table before it, of which n slots are used, and j the
+-- frame table that is lent; v and k are those after it, with m used slots and `waiting` frames.
 pub record Leaves (w : List ℕ) (n : ℕ) (j v : List ℕ) (m : ℕ) (k : List ℕ) (made : List Tree) (waiting : ℕ) : Type 0 where
   -- the new slots hold the nodes made, in the order of making
   pub new : HoldsFrom v m n made
@@ -30,8 +30,9 @@ pub record Leaves (w : List ℕ) (n : ℕ) (j v : List ℕ) (m : ℕ) (k : List 
   pub places : waiting ≤ frameRoom k
   pub above : ZeroFrom k waiting
 
--- The tables and numbers that a run leaves and answers, and the machine's outcome: the same ending, number and steps; a used count that
--- grows by the nodes made; slots and frames that stand for the machine's trees and frames, these oldest first.
+-- The tables and numbers that a run leaves and answers, and the machine's outcome: the same ending, number and steps;
+-- a used count that grows by the nodes made; slots and frames that stand for the machine's trees and frames, these
+-- oldest first.
 pub data Agrees (w : List ℕ) (n : ℕ) (j v k : List ℕ) : Numbers → Outcome → Type 0 where
   agrees-done : {slot steps : ℕ} {t : Tree} {made : List Tree}
       → Holds v (n + length made) slot t

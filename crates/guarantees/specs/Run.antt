@@ -18,8 +18,8 @@ use Rattle.engine.specs.Run.{Ran, ran, run}
 use Rattle.engine.specs.Answer.{numbers}
 use Rattle.guarantees.specs.Agrees.{Agrees}
 
--- A run on sound used slots is the reference machine's, on the trees that they hold: with the call's fuel, the room less the used slots, and the
--- frame table's room. The words before the base stay.
+-- A run on sound used slots is the reference machine's, on the trees that they hold: with the call's fuel, the room
+-- less the used slots, and the frame table's room. The words before the base stay.
 abbrev pub RunSimulates : Type 0
 RunSimulates =
     (before w j : List ℕ) (used f x fuel : ℕ) (ft xt : Tree)
@@ -73,14 +73,16 @@ SameFrom (pos b) w w′ = (length w ≡ length w′) × (drop b w ≡ drop b w�
 SameFrom (negsuc b) w w′ = Unit {0}
 
 -- the words before the base; where there is no base, all
-abbrev pub BeforeBase : ℤ → List ℕ → List ℕ
-BeforeBase (pos b) w = take b w
-BeforeBase (negsuc b) w = w
+abbrev pub beforeBase : ℤ → List ℕ → List ℕ
+beforeBase (pos b) w = take b w
+beforeBase (negsuc b) w = w
 
--- what two calls leave and answer: the same answer and frame table, the same words from the base on, and before it those that were there
+-- what two calls leave and answer: the same answer and frame table, the same words from the base on, and before it
+-- those that were there
 abbrev pub SameRun : ℤ → List ℕ → List ℕ → Ran → Ran → Type 0
 SameRun base w w′ (ran v k a) (ran v′ k′ a′) =
-    (a ≡ a′) × (k ≡ k′) × SameFrom base v v′ × (BeforeBase base v ≡ BeforeBase base w) × (BeforeBase base v′ ≡ BeforeBase base w′)
+    (a ≡ a′) × (k ≡ k′) × SameFrom base v v′
+    × (beforeBase base v ≡ beforeBase base w) × (beforeBase base v′ ≡ beforeBase base w′)
 
 -- No word before the base is looked at or changed: whatever those words hold, all else comes out the same.
 abbrev pub BaseBlind : Type 0
@@ -89,8 +91,8 @@ BaseBlind =
     → SameFrom base w w′
     → SameRun base w w′ (run w base f x used fuel j) (run w′ base f x used fuel j)
 
--- A done run stays done with at least as much fuel and room for slots and frames, on the same used slots, wherever they stand: the same
--- result, steps and used count, and the same slots.
+-- A done run stays done with at least as much fuel and room for slots and frames, on the same used slots, wherever
+-- they stand: the same result, steps and used count, and the same slots.
 abbrev pub DoneStays : Type 0
 DoneStays =
     (before before′ w w′ v j j′ k : List ℕ) (f x slot : ℤ) (used used′ fuel fuel′ steps : ℕ)

@@ -41,7 +41,8 @@ pub data Reply : Type 0 where
   refused : Reply
   answered : Outcome → Reply
 
--- refused if f or x is no place in the store; else the machine gets their trees, the fuel, the free slots and the places for frames
+-- refused if f or x is no place in the store; else the machine gets their trees, the fuel, the free slots and the
+-- places for frames
 abbrev pub replyTo : Found → Found → ℕ → ℕ → ℕ → Reply
 replyTo nowhere x fuel free places = refused
 replyTo (found f) nowhere fuel free places = refused
@@ -73,7 +74,8 @@ tableAfter t (ran w j (Stopped n f x steps used waiting)) = record { words = w; 
 
 -- ---- both
 
--- a request is refused with 23 by both, and changes nothing; or answered by both, and agrees; the words before the base b stay
+-- a request is refused with 23 by both, and changes nothing; or answered by both, and agrees; the words before the
+-- base b stay
 pub data Alike (b : ℕ) (t : Table) (c : Request) : Ran → Reply → Type 0 where
   alike-refused : Alike b t c (ran (t .words) (c .jobs) (Refused 23)) refused
   alike-answered : {w j : List ℕ} {a : RunAnswer} {o : Outcome}
@@ -89,8 +91,8 @@ pub record Holding (w : List ℕ) (used : ℕ) (store : List Tree) : Type 0 wher
   pub each : HoldsFrom w used 0 store
   pub zero : Holds w used 0 leaf
 
--- the whole list, in a table whose base is b and whose room is `most` throughout; behind it the used slots hold the store, and the words
--- before the base are those at the start
+-- the whole list, in a table whose base is b and whose room is `most` throughout; behind it the used slots hold the
+-- store, and the words before the base are those at the start
 abbrev pub AllAlike : ℕ → ℕ → List ℕ → Table → List Tree → List Request → Type 0
 AllAlike b most before t store [] =
     Holding (drop b (t .words)) (t .used) store × (take b (t .words) ≡ before) × (room (drop b (t .words)) ≡ most)

@@ -11,7 +11,8 @@ use lib.Dec.{leb, eqb}
 use borrow.Author.Tests.{le-leb, leb-true, eqb-true}
 use Rattle.table.specs.declared.slots.Node.{Node}
 use Rattle.table.specs.declared.slots.Node.the-variants.{Leaf, Stem, Fork}
-use Rattle.table.specs.Slots.{room, firstWord, secondWord, firstAt, secondAt, nodeOf, nodeAt, putNode, Below, SameSlots}
+use Rattle.table.specs.Slots.{room, firstWord, secondWord, firstAt, secondAt, nodeOf, nodeAt, putNode, Below}
+use Rattle.table.specs.Slots.{SameSlots}
 use Rattle.table.specs.Sound.{slotSound, soundAt, sound}
 use Rattle.table.specs.Holds.{Has}
 use Rattle.table.proofs.SlotLaws.{put-here, first-other, second-other}

@@ -35,7 +35,9 @@ none = record { tag = 0; first = 0; second = 0 }
 
 -- the frame of three words; no sound frame has another tag than 1, 2 and 3
 abbrev pub frameOf : ℕ → ℕ → ℕ → Frame
-frameOf tag a b = cond (eqb tag 1) (Operand (slot a) (slot b)) (cond (eqb tag 2) (Argument (slot a)) (Function (slot a)))
+frameOf tag a b =
+    cond (eqb tag 1) (Operand (slot a) (slot b))
+    (cond (eqb tag 2) (Argument (slot a)) (Function (slot a)))
 
 unfoldable pub recordAt : List ℕ → ℕ → Record
 recordAt j k =

@@ -1,7 +1,7 @@
 // Frames of a lent frame table, the paper's job table: continuation frames of three words, oldest first.
 ghost use mathlib.Core.Path.{_≡_};
 ghost use Prim.Native.Nat.{_<_};
-ghost use Rattle.table.specs.Frames.{frameRoom, Record, frameAt, putRecord, putFrame, dropFrame, cleared};
+ghost use Rattle.table.specs.Frames.{frameRoom, frameAt, putRecord, putFrame, dropFrame, cleared};
 use crate::limits::Limit;
 use crate::slots::Slot;
 
@@ -45,7 +45,8 @@ pub fn frame_at(jobs: &[u32], k: u32) -> Frame
 
 fn put_record(jobs: &mut [u32], k: u32, tag: u32, first: u32, second: u32)
     requires { ⌜ k < frameRoom (now jobs) ⌝ }
-    ensures { λ _. ⌜ now (jobs .exit) ≡ putRecord (now (jobs .entry)) k (record { tag = tag; first = first; second = second }) ⌝ }
+    ensures { λ _. ⌜ now (jobs .exit)
+        ≡ putRecord (now (jobs .entry)) k (record { tag = tag; first = first; second = second }) ⌝ }
 {
     let at = Frame::WORDS * (k as usize);
     jobs[at] = tag;

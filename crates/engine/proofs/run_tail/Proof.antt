@@ -21,8 +21,8 @@ clear-requires c κs = search needs
 new-requires : tie.Need-new-requires
 new-requires c κs = search needs
 
-spin-requires : tie.Need-spin-requires
-spin-requires c κs =
+drive-requires : tie.Need-drive-requires
+drive-requires c κs =
     let admitted = c .before .before .before .before .before .before .before .before .before .before .admit .ensures in
     let told = c .before .before .before .before .before .before .before .before .admission2 .given .1 in (
       start-ready _ _ _ _ _ admitted _ told,
@@ -53,7 +53,7 @@ returns-2 c =
     let fits = told .before .before .before .before .before .before .fits in
     tail-started _ _ _ _ _ _ _ _ (as-passed _ (fits .f)) (as-passed _ (fits .x)) _
     (told .before .before .admit .ensures) _ (told .admission2 .given .1) _ (cleared .clear .ensures) _ _
-    (new .new .ensures .0) (new .new .ensures .1) _ (c .before .before .before .before .spin .ensures)
+    (new .new .ensures .0) (new .new .ensures .1) _ (c .before .before .before .before .drive .ensures)
 
 pub run-tail-spec : {M : Type 1} → statement M
 run-tail-spec =
@@ -64,7 +64,7 @@ run-tail-spec =
     enum-known-admission-2
     clear-requires
     new-requires
-    spin-requires
+    drive-requires
     same-length
     returns
     same-length-2

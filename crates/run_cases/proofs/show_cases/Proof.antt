@@ -1,5 +1,5 @@
 -- The place in the input grows.
-use Prim.Native.Nat.{_-_, _≤_}
+use Prim.Native.Nat.{_-_}
 use lib.ListN.{length}
 use borrow.Author.Needs.{needs}
 use Rattle.run_cases.proofs.show_cases.Statement.{statement}

@@ -3,12 +3,12 @@ use mathlib.Core.Path.{refl, _∙_}
 use native.Mathlib.Omega.{arith}
 use borrow.Author.Needs.{needs}
 use Rattle.engine.proofs.Keeps.{slots-below, step-left}
-use Rattle.engine.proofs.SpinWays.{Spun, spin-none, spin-going, spin-done, spin-no-slot, spin-no-place}
-use Rattle.engine.proofs.spin.Statement.{statement}
-use Rattle.engine.proofs.spin.Tie as tie
+use Rattle.engine.proofs.DriveWays.{Driven, drive-none, drive-going, drive-done, drive-no-slot, drive-no-place}
+use Rattle.engine.proofs.drive.Statement.{statement}
+use Rattle.engine.proofs.drive.Tie as tie
 
 abbrev Inv-loop : tie.InvT-loop
-Inv-loop words₀ jobs₀ s₀ purse₀ words jobs s purse = Spun words₀ jobs₀ s₀ purse₀ words jobs s purse
+Inv-loop words₀ jobs₀ s₀ purse₀ words jobs s purse = Driven words₀ jobs₀ s₀ purse₀ words jobs s purse
 
 abbrev μ-loop : tie.MeasureT-loop
 μ-loop words₀ jobs₀ s₀ purse₀ words jobs s purse = purse .left
@@ -40,7 +40,7 @@ loop-again c =
     record {
       same =
           rw (c .spend .ensures .0, c .spend .ensures .1)
-          (spin-going _ _ _ _ _ _ _ _ (test .if1 .taken) e (c .before .enum-told .given .1) ∙ inv .same);
+          (drive-going _ _ _ _ _ _ _ _ (test .if1 .taken) e (c .before .enum-told .given .1) ∙ inv .same);
       ready = left .0;
       waits = left .1;
       sum = omega arith;
@@ -51,8 +51,8 @@ loop-again c =
 enum-told-2 : tie.Need-enum-told-2 Inv-loop μ-loop
 enum-told-2 c = search needs
 
-add-finished : tie.Need-add-finished Inv-loop μ-loop
-add-finished c = search needs
+spend-requires-2 : tie.Need-spend-requires-2 Inv-loop μ-loop
+spend-requires-2 c κs = search needs
 
 finished-requires : tie.Need-finished-requires Inv-loop μ-loop
 finished-requires c κs =
@@ -70,8 +70,8 @@ returns : tie.Need-returns Inv-loop μ-loop
 returns c =
     let stepped = c .before .before .before .before .before .before .before .before .before in
     let test = stepped .before .before .before in
-    spin-done _ _ _ _ _ _ _ _ (test .if1 .taken) (stepped .step .ensures) _ (c .before .before .enum-told2 .given .1)
-    (c .finished .ensures)
+    drive-done _ _ _ _ _ _ _ _ (test .if1 .taken) (stepped .step .ensures) _ (c .before .before .enum-told2 .given .1)
+    (c .before .spend2 .ensures .1) (c .finished .ensures)
     ∙ test .before .before .loop .inv .same
 
 enum-told-3 : tie.Need-enum-told-3 Inv-loop μ-loop
@@ -92,7 +92,7 @@ returns-2 : tie.Need-returns-2 Inv-loop μ-loop
 returns-2 c =
     let stepped = c .before .before .before .before .before .before .before .before in
     let test = stepped .before .before .before in
-    spin-no-slot _ _ _ _ _ _ _ _ (test .if1 .taken) (stepped .step .ensures) _ (c .before .enum-told3 .given .1)
+    drive-no-slot _ _ _ _ _ _ _ _ (test .if1 .taken) (stepped .step .ensures) _ (c .before .enum-told3 .given .1)
     (c .stopped .ensures)
     ∙ test .before .before .loop .inv .same
 
@@ -114,7 +114,7 @@ returns-3 : tie.Need-returns-3 Inv-loop μ-loop
 returns-3 c =
     let stepped = c .before .before .before .before .before .before .before .before in
     let test = stepped .before .before .before in
-    spin-no-place _ _ _ _ _ _ _ _ (test .if1 .taken) (stepped .step .ensures) _ (c .before .enum-told4 .given .1)
+    drive-no-place _ _ _ _ _ _ _ _ (test .if1 .taken) (stepped .step .ensures) _ (c .before .enum-told4 .given .1)
     (c .stopped2 .ensures)
     ∙ test .before .before .loop .inv .same
 
@@ -128,10 +128,10 @@ same-length-8 : tie.Need-same-length-8 Inv-loop μ-loop
 same-length-8 c = search needs
 
 returns-4 : tie.Need-returns-4 Inv-loop μ-loop
-returns-4 c = spin-none _ _ _ _ _ _ (omega arith) (c .stopped3 .ensures) ∙ c .before .before .before .loop .inv .same
+returns-4 c = drive-none _ _ _ _ _ _ (omega arith) (c .stopped3 .ensures) ∙ c .before .before .before .loop .inv .same
 
-pub spin-spec : {M : Type 1} → statement M
-spin-spec =
+pub drive-spec : {M : Type 1} → statement M
+drive-spec =
     tie.close
     (tie.spec
     Inv-loop
@@ -143,7 +143,7 @@ spin-spec =
     loop-less
     loop-again
     enum-told-2
-    add-finished
+    spend-requires-2
     finished-requires
     same-length
     same-length-2
