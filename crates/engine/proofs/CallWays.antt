@@ -2,13 +2,11 @@
 use Prim.Native.Nat.{ℕ, _-_, _≤_, _<_}
 use mathlib.Core.Path.{_≡_, refl, sym, ap, _∙_, subst}
 use mathlib.Core.Bool.{Bool, true, false}
-use mathlib.Core.List.{List, _++_, append-nil}
-use native.Mathlib.Nat.{le-refl}
+use mathlib.Core.List.{List}
 use lib.Dec.{eqb, ltb}
 use lib.IntN.{ℤ, pos, negsuc}
-use lib.ListN.{length, take, drop, length-drop}
-use lib.Seq.{take-all, drop-length}
-use borrow.Rule.Slice.PartMut.{midOf, putMid, post-is}
+use lib.ListN.{length, take, drop}
+use borrow.Rule.Slice.PartMut.{midOf, putMid}
 use borrow.Author.Tests.{eq-eqb, ne-eqb, lt-ltb, le-ltb, ltb-false}
 use Rattle.table.specs.declared.slots.Slot.{Slot}
 use Rattle.table.specs.declared.slots.Place.{Place}
@@ -16,6 +14,8 @@ use Rattle.table.specs.declared.slots.Place.the-variants.{At, Nowhere}
 use Rattle.table.specs.Slots.{room, place}
 use Rattle.table.specs.Sound.{sound}
 use Rattle.table.specs.Frames.{cleared}
+use Rattle.table.proofs.Tests.{by-test}
+use Rattle.table.proofs.Tail.{tail-lent, tail-home}
 use Rattle.table.proofs.SlotLaws.{place-below}
 use Rattle.engine.specs.declared.step.State.{State}
 use Rattle.engine.specs.declared.Admission.{Admission}
@@ -24,7 +24,7 @@ use Rattle.engine.specs.declared.RunAnswer.{RunAnswer}
 use Rattle.engine.specs.declared.RunAnswer.the-variants.{Refused}
 use Rattle.engine.specs.Ready.{Ready, Waits}
 use Rattle.engine.specs.Run.{Ran, ran, drive, admitAt, admit, start, runTail, behind, run}
-use Rattle.engine.proofs.Keeps.{by-test, waits-none}
+use Rattle.engine.proofs.Keeps.{waits-none}
 
 -- ---- the refusals
 
@@ -134,15 +134,6 @@ module _ (w j : List ℕ) (f x : ℤ) (used fuel : ℕ) (f′ x′ : ℤ) (ef : 
   tail-started s h j′ ej n k en ek r er = er ∙ (rw (ej, en, ek)) ∙ tail h
 
 -- ---- the run call
-
--- `&mut w[n..]` is lent as `drop n w`, and comes back behind `take n w`
-tail-lent : (n : ℕ) (w : List ℕ) → midOf n (length w - n) w ≡ drop n w
-tail-lent n w = take-all (length w - n) (drop n w) (simp length-drop (le-refl _))
-
-tail-home : (n : ℕ) (w w′ : List ℕ) → n ≤ length w → putMid n (length w - n) w w′ ≡ take n w ++ w′
-tail-home n w w′ h =
-    ap (λ (l : List ℕ). take n w ++ (w′ ++ l)) (post-is n (length w) w h ∙ drop-length w)
-    ∙ ap (λ (l : List ℕ). take n w ++ l) (append-nil w′)
 
 module _ (w j : List ℕ) (base f x : ℤ) (used fuel : ℕ) where
   -- a negative base, one past the end,

@@ -1,7 +1,7 @@
 -- A step keeps what the next one works on: sound used slots, an f and an x among them, and frames that name only those.
 use Prim.Native.Nat.{ℕ, zero, suc, _+_, _≤_, _<_}
-use mathlib.Core.Path.{_≡_, sym, subst, refl}
-use mathlib.Core.Bool.{Bool, true, false, cond}
+use mathlib.Core.Path.{_≡_, sym, subst}
+use mathlib.Core.Bool.{true}
 use mathlib.Core.List.{List}
 use native.Mathlib.Omega.{arith}
 use native.Mathlib.Numerals.{add-one}
@@ -17,6 +17,7 @@ use Rattle.table.specs.Limits.{maxSlots}
 use Rattle.table.specs.Slots.{slot, room, nodeAt, putNode, Below}
 use Rattle.table.specs.Sound.{Sound, sound}
 use Rattle.table.specs.Frames.{frameRoom, frameAt, putFrame, dropFrame, Names}
+use Rattle.table.proofs.Tests.{by-test}
 use Rattle.table.proofs.SlotLaws.{room-most, room-put}
 use Rattle.table.proofs.SoundLaws.{slot-bounds, sound-put}
 use Rattle.table.proofs.FrameLaws.{frame-room-long, length-put-frame, frame-here, frame-other}
@@ -28,12 +29,6 @@ use Rattle.engine.specs.declared.step.Turn.{Turn}
 use Rattle.engine.specs.Rules.{onArgument, onFork, onFunction, rule}
 use Rattle.engine.specs.Step.{meetFrame, meet, Stepped, at, beside, carry, step}
 use Rattle.engine.specs.Ready.{Ready, Waits}
-
--- what holds of both answers to a test holds of the answer
-pub by-test : {A : Type 0} (P : A → Type 0) (b : Bool) {x y : A} →
-    (b ≡ true → P x) → (b ≡ false → P y) → P (cond b x y)
-by-test P true h k = h refl
-by-test P false h k = k refl
 
 -- ---- a bound may grow
 

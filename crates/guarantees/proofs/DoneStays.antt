@@ -26,7 +26,8 @@ use Rattle.engine.specs.declared.RunAnswer.the-variants.{Refused, Done, Stopped
 use Rattle.engine.specs.Step.{Stepped, at, step}
 use Rattle.engine.specs.Run.{Ran, ran, resumeAs, resume, drive, admitAt, admit, start, runTail, behind}
 use Rattle.engine.specs.Ready.{Ready, Waits}
-use Rattle.engine.proofs.Keeps.{by-test, Left, step-keeps, waits-none}
+use Rattle.table.proofs.Tests.{by-test}
+use Rattle.engine.proofs.Keeps.{Left, step-keeps, waits-none}
 use Rattle.guarantees.specs.Run.{DoneStays}
 use Rattle.guarantees.proofs.Calls.{run-behind}
 use Rattle.guarantees.proofs.SameSteps.{SameWords, SameFrames, Unless, Same, Stays, frames-cleared, step-stays}

@@ -17,6 +17,7 @@ use Rattle.table.specs.declared.frames.Frame.the-variants.{Operand, Argument, F
 use Rattle.table.specs.Slots.{slot, room, nodeAt, putNode, Below, SameSlots}
 use Rattle.table.specs.Sound.{Sound}
 use Rattle.table.specs.Frames.{frameRoom, frameAt, putFrame, dropFrame, cleared}
+use Rattle.table.proofs.Tests.{by-test}
 use Rattle.table.proofs.SlotLaws.{room-put, same-node, same-put}
 use Rattle.table.proofs.SoundLaws.{slot-bounds}
 use Rattle.table.proofs.FrameLaws.{frame-room-long, length-put-frame, length-drop, length-cleared}
@@ -30,7 +31,6 @@ use Rattle.engine.specs.declared.step.Turn.{Turn}
 use Rattle.engine.specs.Rules.{onArgument, onFork, onFunction, rule}
 use Rattle.engine.specs.Step.{Stepped, at, beside, meetFrame, meet, carry, step}
 use Rattle.engine.specs.Ready.{Ready, Waits}
-use Rattle.engine.proofs.Keeps.{by-test}
 
 -- the same used slots, and at least the room
 pub record SameWords (w w′ : List ℕ) (used : ℕ) : Type 0 where

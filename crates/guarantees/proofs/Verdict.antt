@@ -1,7 +1,7 @@
 -- How a call is judged: each refusal with its reason, and none of the reasons where a run starts.
 use Prim.Native.Nat.{ℕ, zero, suc, _≤_, _<_}
 use mathlib.Core.Path.{_≡_, refl, sym, _∙_}
-use mathlib.Core.Bool.{Bool, true, false, cond, false≢true}
+use mathlib.Core.Bool.{true, false, false≢true}
 use mathlib.Core.List.{List}
 use mathlib.Core.Logic.{_⊎_, inl, inr, ⊎-elim}
 use native.Mathlib.Omega.{arith}
@@ -16,6 +16,7 @@ use Rattle.table.specs.declared.slots.Place.the-variants.{At, Nowhere}
 use Rattle.table.specs.Slots.{room, place}
 use Rattle.table.specs.Sound.{sound}
 use Rattle.table.specs.Frames.{cleared}
+use Rattle.table.proofs.Tests.{by-test}
 use Rattle.table.proofs.SlotLaws.{place-in, place-at}
 use Rattle.table.proofs.SoundTest.{sound-broken}
 use Rattle.table.proofs.SoundLaws.{sound-breaks}
@@ -94,11 +95,6 @@ pub data Verdict (w j : List ℕ) (A B C : Type 0) : Ran → Type 0 where
 abbrev pub Judged : List ℕ → List ℕ → ℤ → ℤ → ℤ → ℕ → Ran → Type 0
 Judged w j base f x used =
     Verdict w j (OutOfTable w base used) (Misplaced used f ⊎ Misplaced used x) (Damaged w base used)
-
--- what holds both ways of a test holds of what it picks
-by-test : {A : Type 0} (P : A → Type 0) (b : Bool) {x y : A} → (b ≡ true → P x) → (b ≡ false → P y) → P (cond b x y)
-by-test P true h k = h refl
-by-test P false h k = k refl
 
 module _ (w j : List ℕ) (b : ℕ) (f x : ℤ) (used fuel : ℕ) where
   -- the verdict on a call whose base is in the table, by whether its run is let start

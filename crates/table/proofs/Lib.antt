@@ -1,3 +1,5 @@
+pub mod Tests
+pub mod Tail
 pub mod Signed
 pub mod SlotWays
 pub mod SlotLaws

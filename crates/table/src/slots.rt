@@ -119,7 +119,7 @@ pub fn sound(words: &[u32], used: u32) -> bool
     requires { ⌜ used ≤ room (now words) ⌝ }
     ensures { λ r. ⌜ r ≡ sound (now (words .entry)) used ⌝ }
 {
-    let mut i: u32 = 0;
+    let mut i = Slot::ZERO.0;
     while i < used {
         let at = Slot::WORDS * (i as usize);
         let good = slot_sound(i, words[at], words[at + 1]);

@@ -1,0 +1,105 @@
+-- Cases of document 01 on the two tables, one statement over one list.
+use Prim.Native.Nat.{ℕ}
+use mathlib.Core.Path.{_≡_}
+use mathlib.Core.List.{List, [], _∷_, map}
+use lib.ListN.{replicate}
+use lib.IntN.{ℤ, pos, negsuc}
+use Rattle.engine.specs.Run.{Ran, ran, run}
+use Rattle.engine.specs.Answer.{Numbers, numbers}
+
+-- two words of the receiver's, then the slots of L, stem L, stem (stem L), I, stem I and D, then free words
+abbrev pub table : List ℕ → List ℕ
+table free = 7 ∷ 7 ∷ 0 ∷ 0 ∷ 1 ∷ 0 ∷ 2 ∷ 0 ∷ 3 ∷ 1 ∷ 4 ∷ 0 ∷ 5 ∷ 4 ∷ free
+
+-- what is asked, with 6 used slots, 9 in each free word and 8 in each word of the frame table; what is left, and the answer
+pub record Case : Type 0 where
+  pub base : ℤ
+  pub f : ℤ
+  pub x : ℤ
+  pub fuel : ℕ
+  pub free : ℕ
+  pub jobs : ℕ
+  pub words : List ℕ
+  pub frames : List ℕ
+  pub answer : Numbers
+
+pub record Seen : Type 0 where
+  pub words : List ℕ
+  pub frames : List ℕ
+  pub answer : Numbers
+
+abbrev pub seen : Ran → Seen
+seen (ran w j a) = record { words = w; frames = j; answer = numbers a }
+
+abbrev pub given : Case → Seen
+given c =
+    seen (run (table (replicate (c .free) 9)) (c .base) (c .f) (c .x) 6 (c .fuel) (replicate (c .jobs) 8))
+
+abbrev pub wanted : Case → Seen
+wanted c = record { words = table (c .words); frames = c .frames; answer = c .answer }
+
+-- number, result, f, x, steps, used, waiting
+abbrev pub says : ℕ → ℕ → ℕ → ℕ → ℕ → ℕ → ℕ → Numbers
+says number slot f x steps used waiting =
+    record {
+      number = number;
+      slot = pos slot;
+      f = pos f;
+      x = pos x;
+      steps = steps;
+      used = used;
+      waiting = waiting;
+    }
+
+-- a run of f on x behind the two words: fuel, free words, words of the frame table; then what they become, and the answer
+abbrev pub runs : ℕ → ℕ → ℕ → ℕ → ℕ → List ℕ → List ℕ → Numbers → Case
+runs f x fuel free jobs words frames answer =
+    record {
+      base = pos 2;
+      f = pos f;
+      x = pos x;
+      fuel = fuel;
+      free = free;
+      jobs = jobs;
+      words = words;
+      frames = frames;
+      answer = answer;
+    }
+
+-- a call that is refused, on a table with one free slot
+abbrev pub refuses : ℤ → ℤ → ℤ → ℕ → Case
+refuses base f x number =
+    record {
+      base = base;
+      f = f;
+      x = x;
+      fuel = 100;
+      free = 2;
+      jobs = 4;
+      words = replicate 2 9;
+      frames = replicate 4 8;
+      answer = says number 0 0 0 0 0 0;
+    }
+
+abbrev pub cases : List Case
+cases =
+    -- L to L, I to L
+    runs 0 0 100 3 2 (1 ∷ 0 ∷ 9 ∷ []) (replicate 2 0) (says 0 6 0 0 1 7 0)
+    ∷ runs 3 0 100 9 3 (1 ∷ 1 ∷ 1 ∷ 0 ∷ replicate 5 9) (replicate 3 0) (says 0 0 0 0 4 8 0)
+    -- D to D: fuel 9; with 3 free slots; with 1 place
+    ∷ runs 5 5 9 9 7 (1 ∷ 6 ∷ 6 ∷ 0 ∷ 1 ∷ 6 ∷ 6 ∷ 0 ∷ 9 ∷ []) (replicate 7 0) (says 31 0 5 5 9 10 0)
+    ∷ runs 5 5 100 6 6 (1 ∷ 6 ∷ 6 ∷ 0 ∷ 1 ∷ 6 ∷ []) (3 ∷ 5 ∷ 0 ∷ 3 ∷ 8 ∷ 0 ∷ []) (says 32 0 0 5 7 9 2)
+    ∷ runs 5 5 100 9 3 (replicate 9 9) (1 ∷ 3 ∷ 5 ∷ []) (says 33 0 3 5 1 6 1)
+    -- fuel 0
+    ∷ runs 5 5 0 0 1 [] (0 ∷ []) (says 31 0 5 5 0 6 0)
+    -- slot -1, slot equal to the used count
+    ∷ refuses (pos 2) (negsuc 0) (pos 0) 23
+    ∷ refuses (pos 2) (pos 0) (pos 6) 23
+    -- base -1, base equal to the length, and base 0, which is no fault of its own: the receiver's words are no leaf
+    ∷ refuses (negsuc 0) (pos 0) (pos 0) 21
+    ∷ refuses (pos 16) (pos 0) (pos 0) 21
+    ∷ refuses (pos 0) (pos 0) (pos 0) 24
+    ∷ []
+
+abbrev pub CasesHold : Type 0
+CasesHold = map given cases ≡ map wanted cases

@@ -1,0 +1,9 @@
+-- A choice by a test.
+use mathlib.Core.Path.{_≡_, refl}
+use mathlib.Core.Bool.{Bool, true, false, cond}
+
+-- what holds of both answers to a test holds of the answer
+pub by-test : {A : Type 0} (P : A → Type 0) (b : Bool) {x y : A} →
+    (b ≡ true → P x) → (b ≡ false → P y) → P (cond b x y)
+by-test P true h k = h refl
+by-test P false h k = k refl
