@@ -49,10 +49,10 @@ module _ (w j : List ℕ) (s : State) (w′ j′ : List ℕ) (t : Turn) (n k : �
     drive-no-place h er = (rw er) ∙ turned NoPlace h
 
 -- what the loop keeps: the rest of the run from here is the whole run, and the next step may be taken
-pub record Driven (w₀ j₀ : List ℕ) (s₀ : State) (fuel : Fuel) (w j : List ℕ) (s : State) (purse : Fuel) : Type 0 where
-  pub same : drive (purse .left) (purse .spent) w j s ≡ drive (fuel .left) (fuel .spent) w₀ j₀ s₀
+pub record Driven (w₀ j₀ : List ℕ) (s₀ : State) (fuel : Fuel) (w j : List ℕ) (s : State) (rest : Fuel) : Type 0 where
+  pub same : drive (rest .left) (rest .spent) w j s ≡ drive (fuel .left) (fuel .spent) w₀ j₀ s₀
   pub ready : Ready w s
   pub waits : Waits j (s .used) (s .waiting)
-  pub sum : purse .left + purse .spent < 2 ^ 32
+  pub sum : rest .left + rest .spent < 2 ^ 32
   pub words-long : length w ≡ length w₀
   pub jobs-long : length j ≡ length j₀

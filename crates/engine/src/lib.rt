@@ -80,29 +80,29 @@ pub(crate) fn drive(words: &mut [u32], jobs: &mut [u32], start: State, fuel: Fue
         ≡ drive (fuel .left) (fuel .spent) (now (words .entry)) (now (jobs .entry)) start ⌝ }
 {
     let mut s = start;
-    let mut purse = fuel;
-    while purse.left > 0 {
+    let mut rest = fuel;
+    while rest.left > 0 {
         let turn = step(words, jobs, s);
         let status = turn.status;
         let next = turn.state;
         match status {
             Status::Going => {
                 s = next;
-                purse = purse.spend();
+                rest = rest.spend();
             }
             Status::Done => {
-                let last = purse.spend();
+                let last = rest.spend();
                 return finished(next, last.spent);
             }
             Status::NoSlot => {
-                return stopped(32, s, purse.spent);
+                return stopped(32, s, rest.spent);
             }
             Status::NoPlace => {
-                return stopped(33, s, purse.spent);
+                return stopped(33, s, rest.spent);
             }
         }
     }
-    stopped(31, s, purse.spent)
+    stopped(31, s, rest.spent)
 }
 
 // 21, 23 and 24, in that order, or the state that a run starts from.

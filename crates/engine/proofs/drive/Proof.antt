@@ -8,10 +8,10 @@ use Rattle.engine.proofs.drive.Statement.{statement}
 use Rattle.engine.proofs.drive.Tie as tie
 
 abbrev Inv-loop : tie.InvT-loop
-Inv-loop words₀ jobs₀ s₀ purse₀ words jobs s purse = Driven words₀ jobs₀ s₀ purse₀ words jobs s purse
+Inv-loop words₀ jobs₀ s₀ rest₀ words jobs s rest = Driven words₀ jobs₀ s₀ rest₀ words jobs s rest
 
 abbrev μ-loop : tie.MeasureT-loop
-μ-loop words₀ jobs₀ s₀ purse₀ words jobs s purse = purse .left
+μ-loop words₀ jobs₀ s₀ rest₀ words jobs s rest = rest .left
 
 loop-holds : tie.Need-loop-holds Inv-loop μ-loop
 loop-holds c =
