@@ -44,6 +44,7 @@ pub enum Admission {
     Start(State),
 }
 
+// The answer of a run that is done; f of its last state is the result.
 fn finished(s: State, steps: u32) -> RunAnswer
     requires { ⌜ s .f .0 < maxSlots ⌝ }
     ensures { λ r. ⌜ r ≡ finished s steps ⌝ }
@@ -56,6 +57,7 @@ fn finished(s: State, steps: u32) -> RunAnswer
     }
 }
 
+// The answer of a run that stops before it is done.
 fn stopped(number: u32, s: State, steps: u32) -> RunAnswer
     requires { ⌜ (s .f .0 < maxSlots) × (s .x .0 < maxSlots) ⌝ }
     ensures { λ r. ⌜ r ≡ stopped number s steps ⌝ }

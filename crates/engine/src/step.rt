@@ -35,6 +35,7 @@ pub struct Turn {
     pub state: State,
 }
 
+// The step goes on with an application.
 fn going(f: Slot, x: Slot, used: u32, waiting: u32) -> Turn
     ensures { λ r. ⌜ r ≡ going f x used waiting ⌝ }
 {
@@ -49,6 +50,7 @@ fn going(f: Slot, x: Slot, used: u32, waiting: u32) -> Turn
     }
 }
 
+// The run is done with slot t.
 fn done(t: Slot, used: u32) -> Turn
     ensures { λ r. ⌜ r ≡ done t used ⌝ }
 {
@@ -63,6 +65,7 @@ fn done(t: Slot, used: u32) -> Turn
     }
 }
 
+// There is no slot or no place for what the rule asks for.
 fn stop(status: Status, s: State) -> Turn
     ensures { λ r. ⌜ r ≡ stop status s ⌝ }
 {

@@ -11,6 +11,7 @@ unfoldable pub slotSound : ℕ → ℕ → ℕ → Bool
 slotSound zero p q = eqb p 0 && eqb q 0
 slotSound (suc i) p q = leb 1 p && (leb p (suc i) && leb q (suc i))
 
+-- slot i of w is sound
 abbrev pub soundAt : List ℕ → ℕ → Bool
 soundAt w i = slotSound i (firstAt w i) (secondAt w i)
 

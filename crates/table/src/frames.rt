@@ -27,6 +27,7 @@ pub fn frame_room(jobs: &[u32]) -> u32
     Limit::FRAMES.of(jobs.len() / Frame::WORDS)
 }
 
+// The frame at place k.
 pub fn frame_at(jobs: &[u32], k: u32) -> Frame
     requires { ⌜ k < frameRoom (now jobs) ⌝ }
     ensures { λ r. ⌜ r ≡ frameAt (now (jobs .entry)) k ⌝ }
@@ -43,6 +44,7 @@ pub fn frame_at(jobs: &[u32], k: u32) -> Frame
     Frame::Function(Slot(first))
 }
 
+// Writes the three words of place k.
 fn put_record(jobs: &mut [u32], k: u32, tag: u32, first: u32, second: u32)
     requires { ⌜ k < frameRoom (now jobs) ⌝ }
     ensures { λ _. ⌜ now (jobs .exit)
@@ -54,6 +56,7 @@ fn put_record(jobs: &mut [u32], k: u32, tag: u32, first: u32, second: u32)
     jobs[at + 2] = second;
 }
 
+// Writes a frame at place k.
 pub fn put_frame(jobs: &mut [u32], k: u32, f: Frame)
     requires { ⌜ k < frameRoom (now jobs) ⌝ }
     ensures { λ _. ⌜ now (jobs .exit) ≡ putFrame (now (jobs .entry)) k f ⌝ }

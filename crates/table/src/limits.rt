@@ -2,11 +2,14 @@
 ghost use mathlib.Core.Path.{_≡_};
 ghost use Rattle.table.specs.Limits.{atMost};
 
+// A most that document 01 sets.
 pub struct Limit(pub u32);
 
 impl Limit {
+    // Of the room, in slots.
     pub const SLOTS: Limit = Limit(65535);
 
+    // Of the job room, in frames.
     pub const FRAMES: Limit = Limit(65535);
 
     // The smaller of a count and the limit.

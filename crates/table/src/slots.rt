@@ -24,7 +24,7 @@ pub enum Node {
 }
 
 impl Slot {
-    // The leaf's.
+    // The leaf's slot.
     pub const ZERO: Slot = Slot(0);
 
     // The words of a slot.
@@ -61,6 +61,7 @@ pub fn room(words: &[u32]) -> u32
     Limit::SLOTS.of(words.len() / Slot::WORDS)
 }
 
+// What slot i holds.
 pub fn node_at(words: &[u32], i: Slot) -> Node
     requires { ⌜ i .0 < room (now words) ⌝ }
     ensures { λ r. ⌜ r ≡ nodeAt (now (words .entry)) (i .0) ⌝ }
@@ -77,6 +78,7 @@ pub fn node_at(words: &[u32], i: Slot) -> Node
     Node::Fork(Slot(first - 1), Slot(second - 1))
 }
 
+// Writes the two words of slot i.
 fn put_words(words: &mut [u32], i: Slot, first: u32, second: u32)
     requires { ⌜ i .0 < room (now words) ⌝ }
     ensures { λ _. ⌜ now (words .exit) ≡ putWords (now (words .entry)) (i .0) first second ⌝ }
