@@ -129,15 +129,15 @@ module _ (before w : List ℕ) (n : ℕ) (store : List Tree) (good : Holding w n
       abbrev call : Ran
       call = run (before ++ w) (pos (length before)) z y n (c .fuel) (c .jobs)
 
-      abbrev book : Reply
-      book = replyTo (lookUp store z) (lookUp store y) (c .fuel) (room w - length store) (frameRoom (c .jobs))
+      abbrev said : Reply
+      said = replyTo (lookUp store z) (lookUp store y) (c .fuel) (room w - length store) (frameRoom (c .jobs))
 
-      goes-outside : Misplaced n z ⊎ Misplaced n y → refused ≡ book → Goes call book
+      goes-outside : Misplaced n z ⊎ Misplaced n y → refused ≡ said → Goes call said
       goes-outside m e =
           let x = refused-exactly (before ++ w) (c .jobs) (pos (length before)) z y n (c .fuel) in
           rw (x .1 .1 (in-table, m), ← e) goes-refused
 
-    goes-at : (z y : ℤ) → Seen z → Seen y → Goes (call z y) (book z y)
+    goes-at : (z y : ℤ) → Seen z → Seen y → Goes (call z y) (said z y)
     goes-at _ _ (within i l) (within m g) =
         let s = run-simulates before w (c .jobs) n i m (c .fuel) _ _ (good .slots) (held i l) (held m g) in
         rw (lt-ltb i (length store) l, lt-ltb m (length store) g, good .long, s .3)
