@@ -18,8 +18,8 @@ use Rattle.table.specs.Slots.{slot, room, nodeAt, putNode, Below}
 use Rattle.table.specs.Sound.{Sound, sound}
 use Rattle.table.specs.Frames.{frameRoom, frameAt, putFrame, dropFrame, Names}
 use Rattle.table.proofs.Tests.{by-test}
-use Rattle.table.proofs.SlotLaws.{room-most, room-put}
-use Rattle.table.proofs.SoundLaws.{slot-bounds, sound-put}
+use Rattle.table.proofs.SlotLaws.{room-most}
+use Rattle.table.proofs.SoundLaws.{slot-bounds, sound-next}
 use Rattle.table.proofs.FrameLaws.{frame-room-long, length-put-frame, frame-here, frame-other}
 use Rattle.table.proofs.FrameLaws.{length-drop, frame-dropped}
 use Rattle.engine.specs.declared.rules.Action.{Action}
@@ -102,13 +102,7 @@ rule-asks w s r =
     let good = r .slots .sound in
     function-asks w (s .used) good (s .x) (r .x) (nodeAt w (s .f .0)) (children w (s .used) good (s .f .0) (r .f))
 
--- ---- the slots and the frames
-
--- the node that a rule makes, in the next slot
-pub sound-next : (w : List ℕ) (n : ℕ) (node : Node) → Sound w n → n < room w → 0 < n → Below n node →
-    (node ≡ Leaf → ⊥) → Sound (putNode w n node) (n + 1)
-sound-next w n node s l z b h =
-    record { fits = rw (room-put w n node) (omega arith); sound = sound-put w n node (s .sound) l z b h }
+-- ---- the frames
 
 module _ (j : List ℕ) (used k : ℕ) where
   -- a frame that is written at place k, behind k frames, waits with them

@@ -44,17 +44,17 @@ Ends (ran v k a) r = EndsAs v a r
 -- ---- the loop
 
 -- the second goes on from the same used slots and waiting frames as the first does
-abbrev Alike : (ℕ → List ℕ → List ℕ → State → Ran) → (ℕ → List ℕ → List ℕ → State → Ran) → Type 0
-Alike rest rest′ =
+abbrev Follows : (ℕ → List ℕ → List ℕ → State → Ran) → (ℕ → List ℕ → List ℕ → State → Ran) → Type 0
+Follows rest rest′ =
     (k : ℕ) (w j w′ j′ : List ℕ) (s : State) → Ready w s → Waits j (s .used) (s .waiting)
     → SameWords w w′ (s .used) → SameFrames j j′ (s .waiting) → Ends (rest k w j s) (rest′ k w′ j′ s)
 
-module _ (rest rest′ : ℕ → List ℕ → List ℕ → State → Ran) (alike : Alike rest rest′) (k : ℕ) (s : State) where
+module _ (rest rest′ : ℕ → List ℕ → List ℕ → State → Ran) (follows : Follows rest rest′) (k : ℕ) (s : State) where
   resumed : (w j : List ℕ) (t : Turn) (c : Stepped) → Left (at w j t)
       → (status : Status) → t .status ≡ status → Unless status (Same w j t c)
       → Ends (resumeAs rest k s w j (t .state) status) (resume rest′ k s c)
   resumed w j t (at w′ j′ t′) left Going e same =
-      rw (← same .0, e) (alike (suc k) w j w′ j′ (t .state) (left .0) (left .1) (same .1) (same .2))
+      rw (← same .0, e) (follows (suc k) w j w′ j′ (t .state) (left .0) (left .1) (same .1) (same .2))
   resumed w j t (at w′ j′ t′) left IsDone e same = rw (← same .0, e) (refl, same .1 .slots)
   resumed w j t c left NoSlot e same = tt
   resumed w j t c left NoPlace e same = tt
@@ -62,7 +62,7 @@ module _ (rest rest′ : ℕ → List ℕ → List ℕ → State → Ran) (alike
   resume-stays : (c c′ : Stepped) → Left c → Stays c c′ → Ends (resume rest k s c) (resume rest′ k s c′)
   resume-stays (at w j t) c′ left same = resumed w j t c′ left (t .status) refl same
 
-drive-stays : (n n′ : ℕ) → n ≤ n′ → Alike (drive n) (drive n′)
+drive-stays : (n n′ : ℕ) → n ≤ n′ → Follows (drive n) (drive n′)
 unfolding drive
 drive-stays zero n′ h k w j w′ j′ s ready waits words frames = tt
 drive-stays (suc n) zero h k w j w′ j′ s ready waits words frames = absurd (omega arith)

@@ -23,8 +23,8 @@ use Rattle.table.specs.Sound.{Sound}
 use Rattle.table.specs.Frames.{frameRoom, Record, recordOf, recordAt, putFrame, dropFrame}
 use Rattle.table.specs.Holds.{Holds, HoldsFrom, Kept, Untouched, StandFrom, ZeroFrom}
 use Rattle.table.specs.Holds.{Stands, stands-operand, stands-argument, stands-function}
-use Rattle.table.proofs.SlotLaws.{room-long, room-put}
-use Rattle.table.proofs.SoundLaws.{sound-put}
+use Rattle.table.proofs.SlotLaws.{room-long}
+use Rattle.table.proofs.SoundLaws.{sound-next}
 use Rattle.table.proofs.FrameLaws.{frame-room-long, frame-is, length-put-frame, record-here, record-other, zero-over}
 use Rattle.table.proofs.FrameLaws.{length-drop, record-dropped, zero-drop, stands-kept}
 use Rattle.table.proofs.HoldsLaws.{held-below, leaf-view, stem-view, fork-view, put-keeps, put-stem, put-fork}
@@ -256,10 +256,9 @@ module _ (w j : List ℕ) (s : State) (p : machine.State) (sim : Sim w j s p) wh
         | yes g ↦
             let v = putNode w n node in
             let grown = grown-one w n node t (put g) in
-            let good = sound-put w n node (sim .slots .sound) g (omega (arith, held-below (sim .f))) below inner in
+            let good = sound-next w n node (sim .slots) g (omega (arith, held-below (sim .f))) below inner in
             rw (lt-ltb n (room w) g, lt-ltb 0 (room w - n) (omega arith))
-            (meets w j s v (n + 1) (t ∷ []) grown
-            (record { fits = omega (arith, room-put w n node); sound = good }) n t (put g) (s .waiting) (p .frames)
+            (meets w j s v (n + 1) (t ∷ []) grown good n t (put g) (s .waiting) (p .frames)
             (frames-kept w n j (grown .old) (s .waiting) (p .frames) (sim .frames)) (sim .fits) (sim .above))
       ]
   carries a b (asks-give {i = i} {t = t} h) =

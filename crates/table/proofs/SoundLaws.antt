@@ -13,9 +13,9 @@ use Rattle.table.specs.declared.slots.Node.{Node}
 use Rattle.table.specs.declared.slots.Node.the-variants.{Leaf, Stem, Fork}
 use Rattle.table.specs.Slots.{room, firstWord, secondWord, firstAt, secondAt, nodeOf, nodeAt, putNode, Below}
 use Rattle.table.specs.Slots.{SameSlots}
-use Rattle.table.specs.Sound.{slotSound, soundAt, sound}
+use Rattle.table.specs.Sound.{slotSound, soundAt, sound, Sound}
 use Rattle.table.specs.Holds.{Has}
-use Rattle.table.proofs.SlotLaws.{put-here, first-other, second-other}
+use Rattle.table.proofs.SlotLaws.{room-put, put-here, first-other, second-other}
 
 both-true : (a b : Bool) → a && b ≡ true → (a ≡ true) × (b ≡ true)
 both-true true b e = (refl, e)
@@ -131,10 +131,15 @@ node-sound n Leaf z b h = absurd (h refl)
 node-sound n (Stem a) z b h = within n (a .0 + 1) 0 z (omega arith) (omega arith) (omega arith)
 node-sound n (Fork a c) z b h = within n (a .0 + 1) (c .0 + 1) z (omega arith) (omega arith) (omega arith)
 
--- sound slots and a node in the next one, its children below
-pub sound-put : (w : List ℕ) (n : ℕ) (node : Node) → sound w n ≡ true → n < room w → 0 < n → Below n node →
+sound-put : (w : List ℕ) (n : ℕ) (node : Node) → sound w n ≡ true → n < room w → 0 < n → Below n node →
     (node ≡ Leaf → ⊥) → sound (putNode w n node) (n + 1) ≡ true
 unfolding sound
 sound-put w n node e l z b h =
     let p = put-here w n node l in
     rw (add-one, sound, sound-under w n node n (omega arith), e, p .first, p .second, node-sound n node z b h)
+
+-- a node in the next slot, its children below: the used slots are sound with it
+pub sound-next : (w : List ℕ) (n : ℕ) (node : Node) → Sound w n → n < room w → 0 < n → Below n node →
+    (node ≡ Leaf → ⊥) → Sound (putNode w n node) (n + 1)
+sound-next w n node s l z b h =
+    record { fits = rw (room-put w n node) (omega arith); sound = sound-put w n node (s .sound) l z b h }
