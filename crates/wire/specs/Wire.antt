@@ -1,5 +1,7 @@
--- Big-endian numbers, spans and fixed strings in a list of bytes. Positions and lengths are whole numbers: no sum wraps.
+-- Big-endian numbers, spans and byte strings in a list of bytes. Positions and lengths are whole numbers: no sum wraps.
 use Prim.Native.Nat.{ℕ, _+_, _*_, _^_}
+use Prim.Native.Char.{code}
+use Prim.Native.String.{String}
 use mathlib.Core.List.{List, [], _∷_}
 use mathlib.Core.Bool.{Bool, true, false, cond}
 use lib.ListN.{length, take, drop}
@@ -8,6 +10,8 @@ use Rattle.wire.specs.declared.Num.{Num}
 use Rattle.wire.specs.declared.Num.the-variants.{Value, Short}
 use Rattle.wire.specs.declared.Pos.{Pos}
 use Rattle.wire.specs.declared.Pos.the-variants.{At, Past}
+use Rattle.wire.specs.declared.Found.{Found}
+use Rattle.wire.specs.declared.Found.the-variants.{Index, Nothing}
 
 -- the number that bytes stand for, the first byte the highest
 unfoldable pub bigEndian : List ℕ → ℕ
@@ -40,3 +44,37 @@ sameBytes (x ∷ xs) (y ∷ ys) = cond (eqb x y) (sameBytes xs ys) false
 -- the byte string t stands in s from a position on
 unfoldable pub holdsAt : List ℕ → ℕ → List ℕ → Bool
 holdsAt s at t = cond (inside s at (length t)) (sameBytes (take (length t) (drop at s)) t) false
+
+-- the number that was read; 0 where there was none
+abbrev pub orZero : Num → ℕ
+orZero (Value v) = v
+orZero Short = 0
+
+-- the index of the first of some byte strings that is this one, counted from i, or none
+unfoldable pub indexOf : List ℕ → ℕ → List (List ℕ) → Found
+indexOf t i [] = Nothing
+indexOf t i (x ∷ xs) = cond (sameBytes x t) (Index i) (indexOf t (i + 1) xs)
+
+abbrev pub found : Found → Bool
+found (Index i) = true
+found Nothing = false
+
+-- some byte string stands again further on
+unfoldable pub repeats : List (List ℕ) → Bool
+repeats [] = false
+repeats (x ∷ xs) = cond (found (indexOf x 0 xs)) true (repeats xs)
+
+-- the bytes of a text of the source
+abbrev pub ascii : String → List ℕ
+ascii String.[] = []
+ascii (String._∷_ c cs) = code c ∷ ascii cs
+
+-- what comes of a position, and what where there is none
+abbrev pub onPos : {A : Type 0} → Pos → (ℕ → A) → A → A
+onPos (At p) f none = f p
+onPos Past f none = none
+
+-- what comes of a number that was read, and what where there is none
+abbrev pub onNumber : {A : Type 0} → Num → (ℕ → A) → A → A
+onNumber (Value v) f none = f v
+onNumber Short f none = none

@@ -2,7 +2,7 @@
 ghost use mathlib.Core.Path.{_≡_};
 ghost use Prim.Native.Nat.{_+_, _^_, _≤_, _<_};
 ghost use lib.ListN.{length, take, drop};
-ghost use Rattle.wire.specs.Wire.{bigEndian, inside, spanEnd, span, numberAt, sameBytes, holdsAt};
+ghost use Rattle.wire.specs.Wire.{bigEndian, inside, spanEnd, span, numberAt, sameBytes, holdsAt, orZero};
 
 // A number that was read, or that the slice ends before its last byte.
 pub enum Num {
@@ -14,6 +14,24 @@ pub enum Num {
 pub enum Pos {
     At(usize),
     Past,
+}
+
+// The index of a byte string among others, or that it is not there.
+pub enum Found {
+    Index(usize),
+    Nothing,
+}
+
+impl Num {
+    // The number, or 0 where there was none.
+    pub fn or_zero(self) -> u64
+        ensures { λ r. ⌜ r ≡ orZero self ⌝ }
+    {
+        match self {
+            Num::Value(v) => v,
+            Num::Short => 0,
+        }
+    }
 }
 
 fn one(s: &[u8], at: usize) -> u64

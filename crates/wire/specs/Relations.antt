@@ -1,0 +1,26 @@
+-- What a reader has to believe of bytes and lists, as relations: a number in bytes, things one after the other, one among others.
+use Prim.Native.Nat.{ℕ}
+use mathlib.Core.Path.{_≡_}
+use mathlib.Core.List.{List, [], _∷_, _++_}
+use lib.ListN.{length}
+use Rattle.wire.specs.Wire.{bigEndian}
+
+-- the n bytes b are the big-endian number v
+pub record Number (n v : ℕ) (b : List ℕ) : Type 0 where
+  pub size : length b ≡ n
+  pub value : bigEndian b ≡ v
+
+-- bytes that are the things xs, one after the other, where `Is x a` says that the bytes a are the thing x
+pub data Sequence {A : Type 0} (Is : A → List ℕ → Type 0) : List A → List ℕ → Type 0 where
+  none : Sequence Is [] []
+  next : {x : A} {xs : List A} {a b : List ℕ} → Is x a → Sequence Is xs b → Sequence Is (x ∷ xs) (a ++ b)
+
+-- x stands in a list
+pub data Among {A : Type 0} (x : A) : List A → Type 0 where
+  here : {xs : List A} → Among x (x ∷ xs)
+  there : {y : A} {xs : List A} → Among x xs → Among x (y ∷ xs)
+
+-- no element stands again further on
+pub data Distinct {A : Type 0} : List A → Type 0 where
+  none : Distinct []
+  more : {x : A} {xs : List A} → (Among x xs → ⊥) → Distinct xs → Distinct (x ∷ xs)
