@@ -14,7 +14,7 @@ use Rattle.wire.proofs.Parts.{part-lent}
 use Rattle.wire.proofs.Spans.{inside-in, inside-out}
 
 -- no test answers both
-not-both : {A : Type 0} {b : Bool} → b ≡ true → b ≡ false → A
+pub not-both : {A : Type 0} {b : Bool} → b ≡ true → b ≡ false → A
 not-both p q = let z : _≡_ {A = ℕ} 0 1 = cc in absurd (omega arith)
 
 pub same-sound : (a b : List ℕ) → sameBytes a b ≡ true → a ≡ b

@@ -78,3 +78,13 @@ onPos Past f none = none
 abbrev pub onNumber : {A : Type 0} → Num → (ℕ → A) → A → A
 onNumber (Value v) f none = f v
 onNumber Short f none = none
+
+-- one of some tests holds
+unfoldable pub anyOf : List Bool → Bool
+anyOf [] = false
+anyOf (b ∷ bs) = cond b true (anyOf bs)
+
+-- some element of a list, with those behind it, passes a test
+unfoldable pub someOf : {A : Type 0} → (A → List A → Bool) → List A → Bool
+someOf test [] = false
+someOf test (x ∷ xs) = cond (test x xs) true (someOf test xs)

@@ -1,0 +1,84 @@
+-- Laws of the entries from a position on: what the first of them adds to a question about all of them.
+use Prim.Native.Nat.{ℕ, zero, suc, _+_, _-_, _≤_, _<_}
+use mathlib.Core.Path.{_≡_, refl, sym, _∙_}
+use mathlib.Core.List.{List, [], _∷_}
+use mathlib.Core.Bool.{Bool, true, false, not}
+use native.Mathlib.Omega.{arith}
+use native.Mathlib.Decide.{decLe}
+use borrow.Author.Tests.{lt-ltb, le-ltb, eq-eqb, ne-eqb}
+use lib.Dec.{ltb}
+use lib.ListN.{length}
+use Rattle.wire.specs.Wire.{inside, span, someOf}
+use Rattle.wire.proofs.Spans.{inside-in, inside-out}
+use Rattle.bundle.specs.declared.directory.Entry.{Entry}
+use Rattle.bundle.specs.declared.directory.Fault.{Fault}
+use Rattle.bundle.specs.Header.{entryBytes}
+use Rattle.bundle.specs.Directory.{entryAt, entriesFrom, faulty, someFaulty, occurrences, sectionIn}
+
+-- the test that a span lies inside is the test that its end does not pass the end of the file
+pub outside-test : (s : List ℕ) (start n : ℕ) → not (inside s start n) ≡ ltb (length s) (start + n)
+outside-test s start n = elim (decLe (start + n) (length s)) [
+  | yes k ↦ rw (inside-in s start n k) (sym (le-ltb (length s) (start + n) k))
+  | no k ↦
+      let h : length s < start + n = omega (arith, k) in
+      rw (inside-out s start n h) (sym (lt-ltb (length s) (start + n) h))
+]
+
+module _ (file : List ℕ) where
+  pub entries-more : (n p : ℕ) → 0 < n → {e : Entry} → e ≡ entryAt file p →
+      entriesFrom file n p ≡ e ∷ entriesFrom file (n - 1) (p + entryBytes)
+  unfolding entriesFrom
+  entries-more zero p h g = absurd (omega arith)
+  entries-more (suc n) p h g = let m : suc n - 1 ≡ n = omega arith in rw (m, g)
+
+  pub entries-end : (n p : ℕ) → n ≤ 0 → entriesFrom file n p ≡ []
+  unfolding entriesFrom
+  entries-end zero p h = refl
+  entries-end (suc n) p h = absurd (omega arith)
+
+-- a loop's turn at the n entries from p on, of which e is the first
+module _ (file : List ℕ) (n p : ℕ) (h : 0 < n) {e : Entry} (g : e ≡ entryAt file p) where
+  pub faulty-here : (fault : Fault) {b : Bool} → b ≡ faulty file fault e → b ≡ true →
+      someFaulty file fault (entriesFrom file n p) ≡ true
+  unfolding someOf
+  faulty-here fault f t = rw (entries-more file n p h g, ← f, t)
+
+  pub faulty-next : (fault : Fault) {b : Bool} → b ≡ faulty file fault e → b ≡ false →
+      someFaulty file fault (entriesFrom file n p) ≡ someFaulty file fault (entriesFrom file (n - 1) (p + entryBytes))
+  unfolding someOf
+  faulty-next fault f t = rw (entries-more file n p h g, ← f, t)
+
+  pub counted-here : (kind seen : ℕ) → e .kind ≡ kind →
+      seen + occurrences kind (entriesFrom file n p) ≡
+      (seen + 1) + occurrences kind (entriesFrom file (n - 1) (p + entryBytes))
+  unfolding occurrences
+  counted-here kind seen t = rw (entries-more file n p h g, eq-eqb (e .kind) kind t) (omega arith)
+
+  pub counted-next : (kind seen : ℕ) → (e .kind ≡ kind → ⊥) →
+      seen + occurrences kind (entriesFrom file n p) ≡ seen + occurrences kind (entriesFrom file (n - 1) (p + entryBytes))
+  unfolding occurrences
+  counted-next kind seen t = rw (entries-more file n p h g, ne-eqb (e .kind) kind t)
+
+  pub section-here : (kind : ℕ) {s : List ℕ} → e .kind ≡ kind → s ≡ span file (e .offset) (e .size) →
+      sectionIn file kind (entriesFrom file n p) ≡ s
+  unfolding sectionIn
+  section-here kind t f = rw (entries-more file n p h g, eq-eqb (e .kind) kind t, f)
+
+  pub section-next : (kind : ℕ) → (e .kind ≡ kind → ⊥) →
+      sectionIn file kind (entriesFrom file n p) ≡ sectionIn file kind (entriesFrom file (n - 1) (p + entryBytes))
+  unfolding sectionIn
+  section-next kind t = rw (entries-more file n p h g, ne-eqb (e .kind) kind t)
+
+-- behind the last entry
+module _ (file : List ℕ) (n p : ℕ) (h : n ≤ 0) where
+  pub faulty-end : (fault : Fault) → someFaulty file fault (entriesFrom file n p) ≡ false
+  unfolding someOf
+  faulty-end fault = rw (entries-end file n p h)
+
+  pub counted-end : (kind seen : ℕ) → seen + occurrences kind (entriesFrom file n p) ≡ seen
+  unfolding occurrences
+  counted-end kind seen = rw (entries-end file n p h) (omega arith)
+
+  pub section-end : (kind : ℕ) → sectionIn file kind (entriesFrom file n p) ≡ []
+  unfolding sectionIn
+  section-end kind = rw (entries-end file n p h)

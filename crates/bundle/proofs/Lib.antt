@@ -1,0 +1,5 @@
+pub mod HeaderLaws
+pub mod Entries
+pub mod Hashes
+pub mod Rows
+pub mod Stages

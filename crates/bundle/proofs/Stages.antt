@@ -1,0 +1,83 @@
+-- The checks are made in stages, each a table: a refusal by an earlier stage stands, and a later stage answers where no row of an earlier
+-- one holds. And what a stage that answers 0 gives to the next.
+use Prim.Native.Nat.{ℕ, _+_, _*_, _≤_}
+use mathlib.Core.Path.{_≡_, refl, sym, _∙_}
+use mathlib.Core.List.{List, [], _∷_, _++_}
+use mathlib.Core.Bool.{Bool, true, false}
+use native.Mathlib.Omega.{arith}
+use lib.ListN.{length}
+use Rattle.bundle.specs.Header.{headerBytes, entryBytes, sectionCount}
+use Rattle.bundle.specs.Directory.{manifestSection, nodesSection}
+use Rattle.bundle.specs.Checks.{Check, firstOf, headerChecks, directoryChecks, manifestChecks, nodeChecks, nameChecks, checks}
+use Rattle.bundle.specs.Checks.{nameRefusal, refusal}
+use Rattle.bundle.proofs.Rows.{Ascends, Clear, first-clear, clear-parts}
+use Rattle.bundle.proofs.HeaderLaws.{directory-exactly}
+
+-- two tables, one behind the other; k stands for the answer of the first
+first-found : (cs ds : List Check) {k : ℕ} → k ≡ firstOf cs → (k ≡ 0 → ⊥) → k ≡ firstOf (cs ++ ds)
+unfolding firstOf
+first-found [] ds e n = absurd (n e)
+first-found (c ∷ cs) ds {k} e n = test (c .holds) refl (first-found cs ds)
+  where
+    test : (b : Bool) → c .holds ≡ b → (k ≡ firstOf cs → (k ≡ 0 → ⊥) → k ≡ firstOf (cs ++ ds)) →
+        k ≡ firstOf ((c ∷ cs) ++ ds)
+    test true q rest = rw q (rw q at e)
+    test false q rest = rw q (rest (rw q at e) n)
+
+clear-joined : (cs ds : List Check) → Clear cs → firstOf (cs ++ ds) ≡ firstOf ds
+unfolding firstOf
+clear-joined [] ds h = refl
+clear-joined (c ∷ cs) ds h = rw (h .0) (clear-joined cs ds (h .1))
+
+-- h, d and n stand for the answers of the header, the directory and of both with the manifest
+module _ (file : List ℕ) where
+  header-clear : {h : ℕ} → h ≡ firstOf (headerChecks file) → h ≡ 0 → Clear (headerChecks file)
+  unfolding headerChecks
+  header-clear e z = first-clear 0 (headerChecks file) (omega arith) (sym e ∙ z)
+
+  directory-clear : {d : ℕ} → d ≡ firstOf (directoryChecks file) → d ≡ 0 → Clear (directoryChecks file)
+  unfolding directoryChecks
+  directory-clear e z = first-clear 0 (directoryChecks file) (omega arith) (sym e ∙ z)
+
+  names-clear : {n : ℕ} → n ≡ nameRefusal file → n ≡ 0 → Clear (nameChecks file)
+  unfolding nameRefusal nameChecks headerChecks directoryChecks manifestChecks
+  names-clear e z = first-clear 0 (nameChecks file) (omega arith) (sym e ∙ z)
+
+  -- the directory lies in the file
+  clear-inside : Clear (headerChecks file) → headerBytes + entryBytes * sectionCount file ≤ length file
+  unfolding headerChecks
+  clear-inside h = directory-exactly file .0 (h .1 .1 .1 .1 .0) .3
+
+  pub header-inside : {h : ℕ} → h ≡ firstOf (headerChecks file) → h ≡ 0 →
+      headerBytes + entryBytes * sectionCount file ≤ length file
+  header-inside e z = clear-inside (header-clear e z)
+
+  pub names-inside : {n : ℕ} → n ≡ nameRefusal file → n ≡ 0 → headerBytes + entryBytes * sectionCount file ≤ length file
+  unfolding nameChecks
+  names-inside e z = clear-inside (clear-parts (headerChecks file) _ .0 (names-clear e z) .0)
+
+  -- who answers
+  pub by-header : {h : ℕ} → h ≡ firstOf (headerChecks file) → (h ≡ 0 → ⊥) → h ≡ nameRefusal file
+  unfolding nameRefusal nameChecks
+  by-header e n = first-found _ _ e n
+
+  module _ {h : ℕ} (e : h ≡ firstOf (headerChecks file)) (z : h ≡ 0) where
+    past-header : nameRefusal file ≡ firstOf (directoryChecks file ++ manifestChecks (manifestSection file))
+    unfolding nameRefusal nameChecks
+    past-header = clear-joined (headerChecks file) _ (header-clear e z)
+
+    pub by-directory : {d : ℕ} → d ≡ firstOf (directoryChecks file) → (d ≡ 0 → ⊥) → d ≡ nameRefusal file
+    by-directory f n = rw past-header (first-found _ _ f n)
+
+    pub by-manifest : {d k : ℕ} {m : List ℕ} → d ≡ firstOf (directoryChecks file) → d ≡ 0 → m ≡ manifestSection file →
+        k ≡ firstOf (manifestChecks m) → k ≡ nameRefusal file
+    by-manifest f y s g = rw (past-header, clear-joined (directoryChecks file) _ (directory-clear f y), ← s) g
+
+  pub by-names : {n : ℕ} → n ≡ nameRefusal file → (n ≡ 0 → ⊥) → n ≡ refusal file
+  unfolding nameRefusal refusal checks
+  by-names e n = first-found _ _ e n
+
+  pub by-nodes : {n k : ℕ} {m s : List ℕ} → n ≡ nameRefusal file → n ≡ 0 → m ≡ manifestSection file → s ≡ nodesSection file →
+      k ≡ firstOf (nodeChecks m s) → k ≡ refusal file
+  unfolding refusal checks
+  by-nodes e z f g h = rw (clear-joined (nameChecks file) _ (names-clear e z), ← f, ← g) h

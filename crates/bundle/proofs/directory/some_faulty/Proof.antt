@@ -1,0 +1,71 @@
+-- One of the entries from p on has the fault where one of all has it.
+use Prim.Native.Nat.{_+_, _*_, _≤_}
+use mathlib.Core.Path.{_≡_, refl, sym, _∙_}
+use native.Mathlib.Omega.{arith}
+use borrow.Author.Needs.{needs}
+use lib.ListN.{length}
+use Rattle.bundle.specs.Header.{entryBytes}
+use Rattle.bundle.specs.Directory.{entriesFrom, someFaulty}
+use Rattle.bundle.proofs.Entries.{faulty-here, faulty-next, faulty-end}
+use Rattle.bundle.proofs.directory.some_faulty.Statement.{statement}
+use Rattle.bundle.proofs.directory.some_faulty.Tie as tie
+
+abbrev Inv-loop : tie.InvT-loop
+Inv-loop file fault n at p₀ left₀ p left =
+    (p + entryBytes * left ≤ length file)
+    × (someFaulty file fault (entriesFrom file n at) ≡ someFaulty file fault (entriesFrom file left p))
+
+abbrev μ-loop : tie.MeasureT-loop
+μ-loop file fault n at p₀ left₀ p left = left
+
+loop-holds : tie.Need-loop-holds Inv-loop μ-loop
+loop-holds c = (omega arith, refl)
+
+entry-at-requires : tie.Need-entry-at-requires Inv-loop μ-loop
+entry-at-requires c κs = search needs
+
+faulty-requires : tie.Need-faulty-requires Inv-loop μ-loop
+faulty-requires c κs = search needs
+
+returns : tie.Need-returns Inv-loop μ-loop
+returns c =
+    let entry = c .before .before in
+    sym
+    (entry .before .before .loop .inv .1
+    ∙ faulty-here _ _ _ (omega arith) (entry .entry-at .ensures) _ (c .before .faulty .ensures) (c .if1 .taken))
+
+add-p : tie.Need-add-p Inv-loop μ-loop
+add-p c = search needs
+
+sub-left : tie.Need-sub-left Inv-loop μ-loop
+sub-left c = search needs
+
+loop-less : tie.Need-loop-less Inv-loop μ-loop
+loop-less c = search needs
+
+loop-again : tie.Need-loop-again Inv-loop μ-loop
+loop-again c =
+    let entry = c .before .before in (
+      omega arith,
+      entry .before .before .loop .inv .1
+          ∙ faulty-next _ _ _ (omega arith) (entry .entry-at .ensures) _ (c .before .faulty .ensures) (c .if1 .left),
+    )
+
+returns-2 : tie.Need-returns-2 Inv-loop μ-loop
+returns-2 c = sym (c .before .loop .inv .1 ∙ faulty-end _ _ _ (omega arith) _)
+
+pub some-faulty-spec : {M : Type 1} → statement M
+some-faulty-spec =
+    tie.close
+    (tie.spec
+    Inv-loop
+    μ-loop
+    loop-holds
+    entry-at-requires
+    faulty-requires
+    returns
+    add-p
+    sub-left
+    loop-less
+    loop-again
+    returns-2)

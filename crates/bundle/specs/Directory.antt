@@ -1,0 +1,92 @@
+-- The directory: entries of 60 bytes, each u32 type; u16 version; u16 flags; u16 compression; u16 digest algorithm; u64 offset from the
+-- start of the file; u64 length; 32-byte SHA-256 of the section. Version isn't judged.
+use Prim.Native.Nat.{ℕ, zero, suc, _+_, _%_}
+use mathlib.Core.List.{List, [], _∷_}
+use mathlib.Core.Bool.{Bool, true, false, not, cond}
+use lib.ListN.{length}
+use lib.Dec.{ltb, eqb}
+use Rattle.wire.specs.Wire.{numberAt, span, sameBytes, orZero, anyOf, someOf}
+use Rattle.sha256.specs.Fips180.{sha256}
+use Rattle.bundle.specs.declared.directory.Entry.{Entry}
+use Rattle.bundle.specs.declared.directory.Fault.{Fault}
+use Rattle.bundle.specs.declared.directory.Fault.the-variants.{Critical, Coded, Outside, Altered}
+use Rattle.bundle.specs.Header.{headerBytes, entryBytes, sectionCount}
+
+-- the entry at a position; the digest by its place
+unfoldable pub entryAt : List ℕ → ℕ → Entry
+entryAt file at =
+    record {
+      kind = orZero (numberAt 4 file at);
+      flags = orZero (numberAt 2 file (at + 6));
+      compression = orZero (numberAt 2 file (at + 8));
+      algorithm = orZero (numberAt 2 file (at + 10));
+      offset = orZero (numberAt 8 file (at + 12));
+      size = orZero (numberAt 8 file (at + 20));
+      digest = at + 28;
+    }
+
+unfoldable pub entriesFrom : List ℕ → ℕ → ℕ → List Entry
+entriesFrom file zero at = []
+entriesFrom file (suc n) at = entryAt file at ∷ entriesFrom file n (at + entryBytes)
+
+unfoldable pub entries : List ℕ → List Entry
+entries file = entriesFrom file (sectionCount file) headerBytes
+
+-- type 1 is the manifest, type 2 the nodes
+abbrev pub manifestKind : ℕ
+manifestKind = 1
+
+abbrev pub nodesKind : ℕ
+nodesKind = 2
+
+abbrev pub known : ℕ → Bool
+known kind = cond (eqb kind manifestKind) true (eqb kind nodesKind)
+
+-- the bytes of an entry's section, and its digest
+abbrev pub sectionOf : List ℕ → Entry → List ℕ
+sectionOf file e = span file (e .offset) (e .size)
+
+abbrev pub digestOf : List ℕ → Entry → List ℕ
+digestOf file e = span file (e .digest) 32
+
+-- an entry of unknown type is critical (6): flag bit 0; it has compression not 0 or digest algorithm not 1 (7); its offset plus length,
+-- as whole numbers, passes the end of file (8); the digest of a type 1 or type 2 section differs (11)
+unfoldable pub faulty : List ℕ → Fault → Entry → Bool
+faulty file Critical e = cond (known (e .kind)) false (eqb (e .flags % 2) 1)
+faulty file Coded e = anyOf (not (eqb (e .compression) 0) ∷ not (eqb (e .algorithm) 1) ∷ [])
+faulty file Outside e = ltb (length file) (e .offset + e .size)
+faulty file Altered e = cond (known (e .kind)) (not (sameBytes (sha256 (sectionOf file e)) (digestOf file e))) false
+
+-- some entry has the fault
+abbrev pub someFaulty : List ℕ → Fault → List Entry → Bool
+someFaulty file fault es = someOf (λ e rest. faulty file fault e) es
+
+-- how many entries have the type
+unfoldable pub occurrences : ℕ → List Entry → ℕ
+occurrences kind [] = 0
+occurrences kind (e ∷ es) = cond (eqb (e .kind) kind) (suc (occurrences kind es)) (occurrences kind es)
+
+-- 9: type 1 or 2 occurs more than once
+unfoldable pub repeated : List ℕ → Bool
+repeated file =
+    anyOf (ltb 1 (occurrences manifestKind (entries file)) ∷ ltb 1 (occurrences nodesKind (entries file)) ∷ [])
+
+-- 10: type 1 or 2 is missing
+unfoldable pub missing : List ℕ → Bool
+missing file =
+    anyOf (eqb (occurrences manifestKind (entries file)) 0 ∷ eqb (occurrences nodesKind (entries file)) 0 ∷ [])
+
+-- the bytes of the first section of a type; none where there is none
+unfoldable pub sectionIn : List ℕ → ℕ → List Entry → List ℕ
+sectionIn file kind [] = []
+sectionIn file kind (e ∷ es) = cond (eqb (e .kind) kind) (sectionOf file e) (sectionIn file kind es)
+
+unfoldable pub section : List ℕ → ℕ → List ℕ
+section file kind = sectionIn file kind (entries file)
+
+-- the manifest section and the nodes section
+abbrev pub manifestSection : List ℕ → List ℕ
+manifestSection file = section file manifestKind
+
+abbrev pub nodesSection : List ℕ → List ℕ
+nodesSection file = section file nodesKind

@@ -1,0 +1,39 @@
+-- The two calls on exports.
+use Prim.Native.Nat.{ℕ}
+use mathlib.Core.List.{List, [], _∷_}
+use mathlib.Core.Bool.{cond}
+use lib.Dec.{eqb}
+use Rattle.wire.specs.declared.Found.{Found}
+use Rattle.wire.specs.declared.Found.the-variants.{Index as FoundAt, Nothing}
+use Rattle.manifest.specs.Judged.{exportName, exportIndex}
+use Rattle.bundle.specs.declared.exports.IndexAnswer.{IndexAnswer}
+use Rattle.bundle.specs.declared.exports.IndexAnswer.the-variants.{Refused, Index}
+use Rattle.bundle.specs.Directory.{manifestSection}
+use Rattle.bundle.specs.Checks.{nameRefusal}
+
+-- export name by index: the part of the file that is the name, or the empty part if any of 1 to 14 holds or there is no such index
+unfoldable pub nameCall : List ℕ → ℕ → List ℕ
+nameCall file i = cond (eqb (nameRefusal file) 0) (exportName (manifestSection file) i) []
+
+-- the empty name means the first export
+unfoldable pub indexAsked : List ℕ → List ℕ → Found
+indexAsked m [] = FoundAt 0
+indexAsked m (b ∷ bs) = exportIndex m (b ∷ bs)
+
+abbrev pub answerOf : Found → IndexAnswer
+answerOf (FoundAt i) = Index i
+answerOf Nothing = Refused 25
+
+-- export index by name: with 1 to 14 it answers that refusal, else 25 or the index
+unfoldable pub indexCall : List ℕ → List ℕ → IndexAnswer
+indexCall file name =
+    cond (eqb (nameRefusal file) 0) (answerOf (indexAsked (manifestSection file) name)) (Refused (nameRefusal file))
+
+-- the paper's numbers of an answer: the number, and the index
+pub record IndexNumbers : Type 0 where
+  pub number : ℕ
+  pub index : ℕ
+
+abbrev pub numbers : IndexAnswer → IndexNumbers
+numbers (Refused n) = record { number = n; index = 0 }
+numbers (Index i) = record { number = 0; index = i }

@@ -1,0 +1,5 @@
+pub mod Header
+pub mod Directory
+pub mod References
+pub mod Checks
+pub mod Exports

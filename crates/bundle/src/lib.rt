@@ -1,0 +1,85 @@
+// Checks a bundle: the refusals 1 to 20 of document 01, in their order, and the two calls on exports.
+ghost use mathlib.Core.Path.{_≡_};
+ghost use Rattle.bundle.specs.Checks.{firstOf, manifestChecks, nodeChecks, nameRefusal, refusal};
+use crate::directory::MANIFEST;
+use crate::directory::NODES;
+use crate::directory::check_directory;
+use crate::directory::section;
+use crate::header::check_header;
+use crate::references::unresolved;
+use manifest::shape::Manifest;
+use nodes::faults::Fault;
+
+pub mod directory;
+pub mod exports;
+pub mod header;
+pub mod references;
+
+// 12 to 14, of a manifest section.
+fn check_manifest(m: &[u8]) -> u32
+    ensures { λ r. ⌜ r ≡ firstOf (manifestChecks (now (m .entry))) ⌝ }
+{
+    match manifest::shape::read(m) {
+        Manifest::Shape(l) => {
+            if manifest::unsupported(m, l) {
+                return 13;
+            }
+            if manifest::misnamed(m, l) {
+                return 14;
+            }
+            0
+        }
+        Manifest::Malformed => 12,
+    }
+}
+
+// 15 to 20, of a manifest section and a nodes section.
+fn check_nodes(m: &[u8], s: &[u8]) -> u32
+    ensures { λ r. ⌜ r ≡ firstOf (nodeChecks (now (m .entry)) (now (s .entry))) ⌝ }
+{
+    if !nodes::records::shaped(s) {
+        return 15;
+    }
+    if nodes::faults::some_faulty(s, Fault::Hash) {
+        return 16;
+    }
+    if nodes::faults::some_faulty(s, Fault::Twice) {
+        return 17;
+    }
+    if nodes::faults::some_faulty(s, Fault::Child) {
+        return 18;
+    }
+    if nodes::links::circular(s) {
+        return 19;
+    }
+    if unresolved(m, s) {
+        return 20;
+    }
+    0
+}
+
+// 1 to 14: the number of the first check that holds, or 0.
+pub fn check_names(file: &[u8]) -> u32
+    ensures { λ r. ⌜ r ≡ nameRefusal (now (file .entry)) ⌝ }
+{
+    let header = check_header(file);
+    if header != 0 {
+        return header;
+    }
+    let directory = check_directory(file);
+    if directory != 0 {
+        return directory;
+    }
+    check_manifest(section(file, MANIFEST))
+}
+
+// 1 to 20: the number of the first check that holds, or 0 for a sound bundle.
+pub fn check(file: &[u8]) -> u32
+    ensures { λ r. ⌜ r ≡ refusal (now (file .entry)) ⌝ }
+{
+    let names = check_names(file);
+    if names != 0 {
+        return names;
+    }
+    check_nodes(section(file, MANIFEST), section(file, NODES))
+}

@@ -1,0 +1,88 @@
+// The hashes that roots and exports name: 20.
+ghost use mathlib.Core.Path.{_≡_};
+ghost use Rattle.nodes.specs.Records.{lacks, nodesOf};
+ghost use Rattle.bundle.specs.References.{referenceEnd, referenceHash, hashesFrom, hashesAt, unresolved};
+use manifest::content::hash_at;
+use manifest::parts::Parsed;
+use manifest::parts::export_end;
+use manifest::parts::root_end;
+use manifest::parts::string_end;
+use manifest::shape::Manifest;
+use wire::Num;
+
+// What names a hash.
+pub enum Reference {
+    Root,
+    Export,
+}
+
+// Where the root or export at a position ends.
+fn reference_end(m: &[u8], kind: Reference, at: usize) -> Parsed
+    ensures { λ r. ⌜ r ≡ referenceEnd (now (m .entry)) kind at ⌝ }
+{
+    match kind {
+        Reference::Root => root_end(m, at),
+        Reference::Export => export_end(m, at),
+    }
+}
+
+// The hash that it names.
+fn reference_hash(m: &[u8], kind: Reference, at: usize) -> &[u8]
+    ensures { λ r. ⌜ now r ≡ referenceHash (now (m .entry)) kind at ⌝ }
+{
+    match kind {
+        Reference::Root => hash_at(m, Parsed::To(at)),
+        Reference::Export => hash_at(m, string_end(m, at)),
+    }
+}
+
+// Whether one of the n hashes from a position on has no record in the nodes section s.
+fn lost_from(m: &[u8], kind: Reference, n: u64, at: usize, s: &[u8]) -> bool
+    ensures { λ r. ⌜ r ≡ lacks (nodesOf (now (s .entry))) (hashesFrom (now (m .entry)) kind n at) ⌝ }
+{
+    let records = nodes::records::count(s);
+    let mut p = at;
+    let mut left = n;
+    while 0 < left {
+        match reference_end(m, kind, p) {
+            Parsed::To(q) => {
+                if !nodes::find::has(s, reference_hash(m, kind, p), records, 8) {
+                    return true;
+                }
+                p = q;
+            }
+            Parsed::Bad => {
+                return false;
+            }
+        }
+        left -= 1;
+    }
+    false
+}
+
+// Whether one of the hashes behind their count at a position has no record.
+fn lost(m: &[u8], kind: Reference, at: usize, s: &[u8]) -> bool
+    ensures { λ r. ⌜ r ≡ lacks (nodesOf (now (s .entry))) (hashesAt (now (m .entry)) kind at) ⌝ }
+{
+    match wire::u32_at(m, at) {
+        Num::Value(n) => lost_from(m, kind, n, at + 4, s),
+        Num::Short => false,
+    }
+}
+
+// 20: a root's or export's hash has no record.
+pub fn unresolved(m: &[u8], s: &[u8]) -> bool
+    ensures { λ r. ⌜ r ≡ unresolved (now (m .entry)) (now (s .entry)) ⌝ }
+{
+    match manifest::shape::read(m) {
+        Manifest::Shape(l) => {
+            let roots = l.roots;
+            let exports = l.exports;
+            if lost(m, Reference::Root, roots, s) {
+                return true;
+            }
+            lost(m, Reference::Export, exports, s)
+        }
+        Manifest::Malformed => false,
+    }
+}

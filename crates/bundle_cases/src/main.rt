@@ -1,0 +1,126 @@
+// Checks each bundle of a folder whose name the input has, and writes the number that is answered, the names of its exports, and
+// what the index by name answers of three names.
+ghost use Prim.Native.Nat.{_≤_};
+ghost use lib.ListN.{length};
+use bundle::exports::IndexAnswer;
+use libc::STDOUT_FILENO;
+
+fn text(t: &[u8]) {
+    io::write_all(STDOUT_FILENO, t);
+}
+
+fn decimal(n: u64) {
+    io::print_decimal(STDOUT_FILENO, n);
+}
+
+fn wide(b: u8) -> u64 {
+    b as u64
+}
+
+fn hex(t: &[u8]) {
+    let mut i = 0;
+    while i < t.len() {
+        io::print_hex(STDOUT_FILENO, wide(t[i]), 2);
+        i += 1;
+    }
+}
+
+// The line of an export: its index, and its name's length and bytes.
+fn show_name(i: u32, name: &[u8]) {
+    text(b"  ");
+    decimal(i as u64);
+    text(b" ");
+    decimal(name.len() as u64);
+    text(b" ");
+    hex(name);
+    text(b"\n");
+}
+
+// The line of the export with an index, if there is one.
+fn show_export(file: &[u8], i: u32) -> bool {
+    let name = bundle::exports::export_name(file, i);
+    if name.len() == 0 {
+        return false;
+    }
+    show_name(i, name);
+    true
+}
+
+// The exports from the first on; no index past them has a name.
+fn show_exports(file: &[u8]) {
+    let mut i: u32 = 0;
+    while i < 4294967295 {
+        if !show_export(file, i) {
+            show_export(file, 4294967295);
+            return;
+        }
+        i += 1;
+    }
+}
+
+fn show_numbers(number: u32, index: usize) {
+    text(b"  index ");
+    decimal(number as u64);
+    text(b" ");
+    decimal(index as u64);
+    text(b"\n");
+}
+
+// The paper's numbers for the index by name.
+fn show_index(file: &[u8], name: &[u8]) {
+    match bundle::exports::export_index(file, name) {
+        IndexAnswer::Refused(number) => show_numbers(number, 0),
+        IndexAnswer::Index(index) => show_numbers(0, index),
+    }
+}
+
+fn show_bundle(name: &[u8], file: &[u8]) {
+    text(name);
+    text(b" ");
+    decimal(bundle::check(file) as u64);
+    text(b"\n");
+    show_exports(file);
+    show_index(file, b"");
+    show_index(file, b"main");
+    show_index(file, b"nobody");
+}
+
+// The bundle in the file of that name; a byte more than is read of the largest.
+fn show_file(name: &[u8]) {
+    let mut bytes: [u8; 65538] = [0; 65538];
+    let fd = os::open_read(name);
+    let n = io::read_full(fd, &mut bytes);
+    libc::close(fd);
+    show_bundle(name, &bytes[..n]);
+}
+
+// Where the line that starts at a place ends.
+fn line_end(s: &[u8], at: usize) -> usize
+    requires { ⌜ at ≤ length (now s) ⌝ }
+    ensures { λ r. ⌜ (at ≤ r) × (r ≤ length (now (s .entry))) ⌝ }
+{
+    let mut end = at;
+    while end < s.len() {
+        if s[end] == b'\n' {
+            return end;
+        }
+        end += 1;
+    }
+    end
+}
+
+// The files whose names stand in s, one to a line.
+fn show_files(s: &[u8]) {
+    let mut at = 0;
+    while at < s.len() {
+        let end = line_end(s, at);
+        show_file(&s[at..end]);
+        at = end + 1;
+    }
+}
+
+fn main() {
+    let mut names = io::large_buffer();
+    let n = io::read_full(0, &mut names);
+    show_files(&names[..n]);
+}

@@ -1,0 +1,56 @@
+-- Laws of what is asked of a list of exports: by its first export, and where it has none.
+use Prim.Native.Nat.{ℕ, suc, _+_, _-_, _≤_}
+use mathlib.Core.Path.{_≡_}
+use mathlib.Core.List.{List, [], _∷_}
+use mathlib.Core.Bool.{Bool, true, false}
+use native.Mathlib.Omega.{arith}
+use lib.ListN.{getD}
+use Rattle.wire.specs.Wire.{sameBytes, indexOf, someOf}
+use Rattle.wire.specs.declared.Found.the-variants.{Index, Nothing}
+use Rattle.manifest.specs.Content.{Export, names}
+use Rattle.manifest.specs.Judged.{faulty, someFaulty}
+use Rattle.manifest.specs.declared.exports.Fault.{Fault}
+
+module _ {es : List Export} where
+  module _ {e : Export} {rest : List Export} (first : es ≡ e ∷ rest) where
+    -- y and b stand for the results of the calls that read its name and compare it
+    module _ (t : List ℕ) (i : ℕ) {y : List ℕ} (n : y ≡ e .name) {b : Bool} (same : b ≡ sameBytes y t) where
+      pub find-here : b ≡ true → indexOf t i (names es) ≡ Index i
+      unfolding names indexOf
+      find-here h = rw (first, ← n, ← same, h)
+
+      pub find-later : b ≡ false → indexOf t i (names es) ≡ indexOf t (i + 1) (names rest)
+      unfolding names indexOf
+      find-later h = rw (first, ← n, ← same, h)
+
+    -- the name by an index that is counted down, as i - k
+    module _ (i k : ℕ) where
+      pub name-here : k ≡ i → getD (names es) (i - k) [] ≡ e .name
+      unfolding names
+      name-here h = let m : i - k ≡ 0 = omega arith in rw (first, m)
+
+      pub name-later : k + 1 ≤ i → getD (names es) (i - k) [] ≡ getD (names rest) (i - (k + 1)) []
+      unfolding names
+      name-later h = let m : i - k ≡ suc (i - (k + 1)) = omega arith in rw (first, m)
+
+    module _ (fault : Fault) {b : Bool} (test : b ≡ faulty fault e rest) where
+      pub fault-here : b ≡ true → someFaulty fault es ≡ true
+      unfolding someOf
+      fault-here h = rw (first, ← test, h)
+
+      pub fault-later : b ≡ false → someFaulty fault es ≡ someFaulty fault rest
+      unfolding someOf
+      fault-later h = rw (first, ← test, h)
+
+  module _ (none : es ≡ []) where
+    pub find-none : (t : List ℕ) (i : ℕ) → indexOf t i (names es) ≡ Nothing
+    unfolding names indexOf
+    find-none t i = rw none
+
+    pub name-none : (i : ℕ) → getD (names es) i [] ≡ []
+    unfolding names
+    name-none i = rw none
+
+    pub fault-none : (fault : Fault) → someFaulty fault es ≡ false
+    unfolding someOf
+    fault-none fault = rw none

@@ -1,0 +1,4 @@
+pub mod Choices
+pub mod Items
+pub mod Lists
+pub mod ExportLists

@@ -1,0 +1,79 @@
+-- The four tests in their order.
+use mathlib.Core.Path.{sym, _∙_}
+use borrow.Author.Needs.{needs}
+use borrow.Author.Tests.{eq-eqb, ne-eqb, not-true, not-false}
+use Rattle.wire.specs.Wire.{anyOf}
+use Rattle.manifest.specs.Judged.{unsupportedAt}
+use Rattle.manifest.proofs.Choices.{cond-test}
+use Rattle.manifest.proofs.unsupported.Statement.{statement}
+use Rattle.manifest.proofs.unsupported.Tie as tie
+
+strings-agree-requires : tie.Need-strings-agree-requires
+strings-agree-requires c κs = search needs
+
+returns : tie.Need-returns
+unfolding anyOf unsupportedAt
+returns c = rw (sym (c .before .strings-agree .ensures) ∙ not-true _ (c .if1 .taken))
+
+some-faulty-requires : tie.Need-some-faulty-requires
+some-faulty-requires c κs = search needs
+
+returns-2 : tie.Need-returns-2
+unfolding anyOf unsupportedAt
+returns-2 c =
+    let strings = c .before .before in
+    rw (
+      sym (strings .before .strings-agree .ensures) ∙ not-false _ (strings .if1 .left),
+      ← c .before .some-faulty .ensures,
+      c .if2 .taken,
+    )
+
+count-at-requires : tie.Need-count-at-requires
+count-at-requires c κs = search needs
+
+returns-3 : tie.Need-returns-3
+unfolding anyOf unsupportedAt
+returns-3 c =
+    let strings = c .before .before .before .before in
+    rw (
+      sym (strings .before .strings-agree .ensures) ∙ not-false _ (strings .if1 .left),
+      ← c .before .before .before .some-faulty .ensures,
+      c .before .before .if2 .left,
+      ← c .before .count-at .ensures,
+      ne-eqb _ _ (c .if3 .taken),
+    )
+
+u8-at-requires : tie.Need-u8-at-requires
+u8-at-requires c κs = search needs
+
+or-zero-requires : tie.Need-or-zero-requires
+or-zero-requires c κs = search needs
+
+returns-4 : tie.Need-returns-4
+unfolding anyOf unsupportedAt
+returns-4 c =
+    let strings = c .before .before .before .before .before .before in
+    rw (
+      sym (strings .before .strings-agree .ensures) ∙ not-false _ (strings .if1 .left),
+      ← c .before .before .before .before .before .some-faulty .ensures,
+      c .before .before .before .before .if2 .left,
+      ← c .before .before .before .count-at .ensures,
+      eq-eqb _ _ (c .before .before .if3 .left),
+      c .or-zero .ensures,
+      c .before .u8-at .ensures,
+      cond-test,
+    )
+
+pub unsupported-spec : {M : Type 1} → statement M
+unsupported-spec =
+    tie.close
+    (tie.spec
+    strings-agree-requires
+    returns
+    some-faulty-requires
+    returns-2
+    count-at-requires
+    returns-3
+    u8-at-requires
+    or-zero-requires
+    returns-4)

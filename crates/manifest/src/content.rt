@@ -1,0 +1,38 @@
+// What stands in a manifest, as parts of the section.
+ghost use mathlib.Core.Path.{_≡_};
+ghost use Rattle.manifest.specs.Content.{textAt, hashAt, countAt};
+use crate::parts::Parsed;
+use wire::Num;
+
+// The text of the string that stands at a position.
+pub fn text_at(s: &[u8], p: Parsed) -> &[u8]
+    ensures { λ r. ⌜ now r ≡ textAt (now (s .entry)) p ⌝ }
+{
+    match p {
+        Parsed::To(at) => match wire::u32_at(s, at) {
+            Num::Value(n) => wire::span(s, at + 4, n as usize),
+            Num::Short => &s[..0],
+        },
+        Parsed::Bad => &s[..0],
+    }
+}
+
+// The 32 bytes that stand at a position.
+pub fn hash_at(s: &[u8], p: Parsed) -> &[u8]
+    ensures { λ r. ⌜ now r ≡ hashAt (now (s .entry)) p ⌝ }
+{
+    match p {
+        Parsed::To(at) => wire::span(s, at, 32),
+        Parsed::Bad => &s[..0],
+    }
+}
+
+// The count that stands at a position.
+pub fn count_at(s: &[u8], at: usize) -> u64
+    ensures { λ r. ⌜ r ≡ countAt (now (s .entry)) at ⌝ }
+{
+    match wire::u32_at(s, at) {
+        Num::Value(n) => n,
+        Num::Short => 0,
+    }
+}

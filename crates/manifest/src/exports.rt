@@ -1,0 +1,153 @@
+// The exports of a manifest: their faults, their names, and one by its name.
+ghost use mathlib.Core.Path.{_≡_};
+ghost use mathlib.Core.List.{[]};
+ghost use lib.ListN.{getD};
+ghost use Rattle.wire.specs.Wire.{indexOf, found};
+ghost use Rattle.manifest.specs.Shape.{andThen, stringEnd, rootEnd};
+ghost use Rattle.manifest.specs.Content.{textAt, exportAt, exportsFrom, exportsAt, names};
+ghost use Rattle.manifest.specs.Judged.{faulty, someFaulty};
+use crate::content::text_at;
+use crate::parts::Parsed;
+use crate::parts::export_end;
+use crate::parts::root_end;
+use crate::parts::string_end;
+use sizes::Size;
+use wire::Found;
+use wire::Num;
+
+// What can be wrong with an export.
+pub enum Fault {
+    Abi,
+    NameSize,
+    NameTwice,
+}
+
+// The abi string of the export at a position.
+fn abi_at(s: &[u8], at: usize) -> &[u8]
+    ensures { λ r. ⌜ now r ≡ textAt (now (s .entry)) (andThen (stringEnd (now (s .entry)) at) (rootEnd (now (s .entry)))) ⌝ }
+{
+    match string_end(s, at) {
+        Parsed::To(p) => text_at(s, root_end(s, p)),
+        Parsed::Bad => &s[..0],
+    }
+}
+
+// The index of the first of the n exports from a position on that has the name.
+fn find_from(s: &[u8], name: &[u8], n: u64, at: usize) -> Found
+    ensures { λ r. ⌜ r ≡ indexOf (now (name .entry)) 0 (names (exportsFrom (now (s .entry)) n at)) ⌝ }
+{
+    let mut p = at;
+    let mut i: u64 = 0;
+    while i < n {
+        match export_end(s, p) {
+            Parsed::To(q) => {
+                if wire::same_bytes(text_at(s, Parsed::To(p)), name) {
+                    return Found::Index(i as usize);
+                }
+                p = q;
+            }
+            Parsed::Bad => {
+                return Found::Nothing;
+            }
+        }
+        i += 1;
+    }
+    Found::Nothing
+}
+
+// Whether one of the n exports from a position on has the name.
+fn has(s: &[u8], name: &[u8], n: u64, at: usize) -> bool
+    ensures { λ r. ⌜ r ≡ found (indexOf (now (name .entry)) 0 (names (exportsFrom (now (s .entry)) n at))) ⌝ }
+{
+    match find_from(s, name, n, at) {
+        Found::Index(_) => true,
+        Found::Nothing => false,
+    }
+}
+
+// Whether the export at p has the fault; n exports stand behind it, from q on.
+fn faulty(s: &[u8], fault: Fault, p: usize, n: u64, q: usize) -> bool
+    ensures { λ r. ⌜ r ≡ faulty fault (exportAt (now (s .entry)) p) (exportsFrom (now (s .entry)) n q) ⌝ }
+{
+    match fault {
+        Fault::Abi => !wire::same_bytes(abi_at(s, p), b"arboricx.abi.tree.v1"),
+        Fault::NameSize => !Size::NAME.allows(text_at(s, Parsed::To(p)).len() as u64),
+        Fault::NameTwice => has(s, text_at(s, Parsed::To(p)), n, q),
+    }
+}
+
+// Whether one of the n exports from a position on has the fault.
+fn some_faulty_from(s: &[u8], fault: Fault, n: u64, at: usize) -> bool
+    ensures { λ r. ⌜ r ≡ someFaulty fault (exportsFrom (now (s .entry)) n at) ⌝ }
+{
+    let mut p = at;
+    let mut left = n;
+    while 0 < left {
+        match export_end(s, p) {
+            Parsed::To(q) => {
+                left -= 1;
+                if faulty(s, fault, p, left, q) {
+                    return true;
+                }
+                p = q;
+            }
+            Parsed::Bad => {
+                return false;
+            }
+        }
+    }
+    false
+}
+
+// Whether one of the exports behind their count at a position has the fault.
+pub fn some_faulty(s: &[u8], fault: Fault, at: usize) -> bool
+    ensures { λ r. ⌜ r ≡ someFaulty fault (exportsAt (now (s .entry)) at) ⌝ }
+{
+    match wire::u32_at(s, at) {
+        Num::Value(n) => some_faulty_from(s, fault, n, at + 4),
+        Num::Short => false,
+    }
+}
+
+// The index of the export with the name.
+pub fn find(s: &[u8], name: &[u8], at: usize) -> Found
+    ensures { λ r. ⌜ r ≡ indexOf (now (name .entry)) 0 (names (exportsAt (now (s .entry)) at)) ⌝ }
+{
+    match wire::u32_at(s, at) {
+        Num::Value(n) => find_from(s, name, n, at + 4),
+        Num::Short => Found::Nothing,
+    }
+}
+
+// The name of the i-th of the n exports from a position on.
+fn name_from(s: &[u8], n: u64, at: usize, i: u64) -> &[u8]
+    ensures { λ r. ⌜ now r ≡ getD (names (exportsFrom (now (s .entry)) n at)) i [] ⌝ }
+{
+    let mut p = at;
+    let mut k: u64 = 0;
+    while k < n {
+        match export_end(s, p) {
+            Parsed::To(q) => {
+                if k == i {
+                    return text_at(s, Parsed::To(p));
+                }
+                p = q;
+            }
+            Parsed::Bad => {
+                return &s[..0];
+            }
+        }
+        k += 1;
+    }
+    &s[..0]
+}
+
+// The name of the i-th of the exports behind their count at a position.
+pub fn name_at(s: &[u8], at: usize, i: u64) -> &[u8]
+    ensures { λ r. ⌜ now r ≡ getD (names (exportsAt (now (s .entry)) at)) i [] ⌝ }
+{
+    match wire::u32_at(s, at) {
+        Num::Value(n) => name_from(s, n, at + 4, i),
+        Num::Short => &s[..0],
+    }
+}

@@ -1,0 +1,51 @@
+-- The children of records by their numbers, which is what placing works on; and 19.
+use Prim.Native.Nat.{ℕ, _+_, _*_, _≤_}
+use mathlib.Core.Path.{_≡_}
+use mathlib.Core.List.{List, [], _∷_}
+use mathlib.Core.Bool.{Bool}
+use lib.ListN.{length}
+use lib.Dec.{ltb}
+use Rattle.wire.specs.Wire.{indexOf}
+use Rattle.wire.specs.declared.Found.{Found}
+use Rattle.wire.specs.declared.Found.the-variants.{Index, Nothing}
+use Rattle.sizes.specs.Sizes.{nodesSize}
+use Rattle.placing.specs.Placing.{Placed, placed}
+use Rattle.nodes.specs.Records.{Node, children, hashes, records}
+
+abbrev pub linkTo : Found → ℕ
+linkTo (Index i) = i + 1
+linkTo Nothing = 0
+
+-- the number, plus one, of the record with a hash; 0 where there is none
+unfoldable pub linkOf : List Node → List ℕ → ℕ
+linkOf all h = linkTo (indexOf h 0 (hashes all))
+
+-- the links of the first and of the second of some children
+unfoldable pub firstLink : List Node → List (List ℕ) → ℕ
+firstLink all [] = 0
+firstLink all (c ∷ cs) = linkOf all c
+
+unfoldable pub secondLink : List Node → List (List ℕ) → ℕ
+secondLink all [] = 0
+secondLink all (c ∷ []) = 0
+secondLink all (c ∷ d ∷ cs) = linkOf all d
+
+unfoldable pub links : List Node → List Node → List ℕ
+links all [] = []
+links all (r ∷ rs) = firstLink all (children r) ∷ secondLink all (children r) ∷ links all rs
+
+abbrev pub linksOf : List Node → List ℕ
+linksOf rs = links rs rs
+
+-- the slots of the records, as far as they can be placed
+unfoldable pub placedOf : List Node → Placed
+placedOf rs = placed (linksOf rs) (length rs) (nodesSize .most)
+
+-- 19: placing stops short
+unfoldable pub circular : List Node → Bool
+circular rs = ltb (placedOf rs .count) (length rs)
+
+-- the section has n records, which is within the size
+pub record Sized (s : List ℕ) (n : ℕ) : Type 0 where
+  pub all : length (records s n 8) ≡ n
+  pub few : n ≤ nodesSize .most

@@ -1,0 +1,101 @@
+// The children of records by their numbers, and whether a node is its own descendant (19).
+ghost use mathlib.Core.Path.{_≡_};
+ghost use mathlib.Core.Bool.{true};
+ghost use mathlib.Core.List.{_++_};
+ghost use Prim.Native.Nat.{_*_, _≤_};
+ghost use lib.ListN.{length, drop, take, replicate};
+ghost use Rattle.sizes.specs.Sizes.{nodesSize};
+ghost use Rattle.placing.specs.Placing.{Placed};
+ghost use Rattle.nodes.specs.Records.{childrenOf, records, nodesOf, shaped};
+ghost use Rattle.nodes.specs.Links.{linkOf, firstLink, secondLink, linksOf, placedOf, circular, Sized};
+use crate::find::find;
+use crate::records::count;
+use crate::records::record_end;
+use wire::Found;
+use wire::Pos;
+
+// The number, plus one, of the record with a hash.
+fn link(s: &[u8], n: u64, h: &[u8]) -> u32
+    requires { ⌜ n ≤ nodesSize .most ⌝ }
+    ensures { λ r. ⌜ r ≡ linkOf (records (now (s .entry)) n 8) (now (h .entry)) ⌝ }
+{
+    match find(s, h, n, 8) {
+        Found::Index(i) => i as u32 + 1,
+        Found::Nothing => 0,
+    }
+}
+
+// The link of a payload's first child.
+fn first_link(s: &[u8], n: u64, payload: &[u8]) -> u32
+    requires { ⌜ n ≤ nodesSize .most ⌝ }
+    ensures { λ r. ⌜ r ≡ firstLink (records (now (s .entry)) n 8) (childrenOf (now (payload .entry))) ⌝ }
+{
+    if payload.len() == 33 {
+        return link(s, n, wire::span(payload, 1, 32));
+    }
+    if payload.len() == 65 {
+        return link(s, n, wire::span(payload, 1, 32));
+    }
+    0
+}
+
+// The link of its second child.
+fn second_link(s: &[u8], n: u64, payload: &[u8]) -> u32
+    requires { ⌜ n ≤ nodesSize .most ⌝ }
+    ensures { λ r. ⌜ r ≡ secondLink (records (now (s .entry)) n 8) (childrenOf (now (payload .entry))) ⌝ }
+{
+    if payload.len() == 65 {
+        return link(s, n, wire::span(payload, 33, 32));
+    }
+    0
+}
+
+// Writes the links of the n records, two to a record.
+pub fn fill_links(s: &[u8], n: u64, out: &mut [u32])
+    requires { ⌜ Sized (now s) n × (2 * n ≤ length (now out)) ⌝ }
+    ensures { λ r. ⌜ now (out .exit) ≡ linksOf (records (now (s .entry)) n 8) ++ drop (2 * n) (now (out .entry)) ⌝ }
+{
+    let total = n as usize;
+    let mut p: usize = 8;
+    let mut k: usize = 0;
+    while k < total {
+        match record_end(s, p) {
+            Pos::At(q) => {
+                let start = p + 36;
+                let size = q - start;
+                let x = first_link(s, n, wire::span(s, start, size));
+                let y = second_link(s, n, wire::span(s, start, size));
+                out[2 * k] = x;
+                out[2 * k + 1] = y;
+                p = q;
+                k += 1;
+            }
+            Pos::Past => {
+                return;
+            }
+        }
+    }
+}
+
+// Gives the n records their slots, as far as they can be placed. How many are placed.
+pub fn place(s: &[u8], n: u64, links: &[u32], slots: &mut [u32]) -> usize
+    requires { ⌜ Sized (now s) n × (take (2 * n) (now links) ≡ linksOf (records (now s) n 8))
+        × (2 * n ≤ length (now links)) × (now slots ≡ replicate (nodesSize .most) 0) ⌝ }
+    ensures { λ r. ⌜ record { slots = now (slots .exit); count = r } ≡ placedOf (records (now (s .entry)) n 8) ⌝ }
+{
+    let total = n as usize;
+    let end = 2 * total;
+    placing::place(&links[0..end], total, slots)
+}
+
+// 19, of a section that has the stated shape: placing stops short.
+pub fn circular(s: &[u8]) -> bool
+    requires { ⌜ shaped (now s) ≡ true ⌝ }
+    ensures { λ r. ⌜ r ≡ circular (nodesOf (now (s .entry))) ⌝ }
+{
+    let n = count(s);
+    let mut links: [u32; 1024] = [0; 1024];
+    let mut slots: [u32; 512] = [0; 512];
+    fill_links(s, n, &mut links);
+    place(s, n, &links, &mut slots) < n as usize
+}

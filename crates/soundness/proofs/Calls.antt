@@ -1,0 +1,47 @@
+-- The two calls on exports, in a file in which none of 1 to 14 holds.
+use Prim.Native.Nat.{ℕ, _<_}
+use mathlib.Core.Path.{_≡_, refl, ap, _∙_}
+use mathlib.Core.List.{List, [], _∷_}
+use native.Mathlib.Nat.{sub-zero}
+use native.Mathlib.Omega.{arith}
+use lib.ListN.{length, getD}
+use Rattle.wire.specs.Wire.{indexOf}
+use Rattle.wire.specs.Relations.{Distinct}
+use Rattle.wire.specs.declared.Found.{Found}
+use Rattle.wire.specs.declared.Found.the-variants.{Index as FoundAt, Nothing}
+use Rattle.wire.proofs.Index.{index-among, distinct-index, index-is, index-none}
+use Rattle.manifest.specs.Content.{Export, names}
+use Rattle.manifest.specs.Judged.{exportsOf, exportName, exportIndex}
+use Rattle.bundle.specs.Directory.{manifestSection}
+use Rattle.bundle.specs.Checks.{nameRefusal}
+use Rattle.bundle.specs.Exports.{nameCall, indexAsked, answerOf, indexCall}
+
+pub names-length : (es : List Export) → length (names es) ≡ length es
+unfolding names
+names-length [] = refl
+names-length (e ∷ es) = rw (names-length es)
+
+-- of byte strings that are all different, each is found where it stands
+pub found-there : (xs : List (List ℕ)) (i : ℕ) → Distinct xs → i < length xs → indexOf (getD xs i []) 0 xs ≡ FoundAt i
+found-there xs i d h = go (indexOf (getD xs i []) 0 xs) refl
+  where
+    go : (f : Found) → indexOf (getD xs i []) 0 xs ≡ f → indexOf (getD xs i []) 0 xs ≡ FoundAt i
+    go (FoundAt k) e =
+        let (a, b, c) = index-is (getD xs i []) 0 xs k e in
+        let q : k ≡ i = distinct-index [] d k i (omega arith) h (rw sub-zero at c) in e ∙ ap FoundAt q
+    go Nothing e = absurd (index-none (getD xs i []) 0 xs e (index-among [] xs i h))
+
+module _ (file : List ℕ) (fine : nameRefusal file ≡ 0) where
+  pub name-read : (i : ℕ) → nameCall file i ≡ getD (names (exportsOf (manifestSection file))) i []
+  unfolding nameCall exportName
+  name-read i = rw fine
+
+  pub index-asked : (name : List ℕ) → indexCall file name ≡ answerOf (indexAsked (manifestSection file) name)
+  unfolding indexCall
+  index-asked name = rw fine
+
+-- a name that is not empty
+pub asked-name : (m name : List ℕ) → (name ≡ [] → ⊥) → indexAsked m name ≡ indexOf name 0 (names (exportsOf m))
+unfolding indexAsked exportIndex
+asked-name m [] h = absurd (h refl)
+asked-name m (b ∷ bs) h = refl

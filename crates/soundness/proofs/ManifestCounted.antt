@@ -1,0 +1,119 @@
+-- Several things one after the other, and a count and as many things: they parse where the single thing does.
+use Prim.Native.Nat.{ℕ, zero, suc, _+_, _≤_}
+use mathlib.Core.Path.{_≡_, refl, ap}
+use mathlib.Core.List.{List, [], _++_}
+use native.Mathlib.Omega.{arith}
+use lib.ListN.{length}
+use Rattle.wire.specs.Wire.{numberAt, onNumber}
+use Rattle.wire.specs.Relations.{Sequence, none, next}
+use Rattle.wire.specs.declared.Num.the-variants.{Value}
+use Rattle.wire.proofs.Reading.{Reads, reads-none, reads-join, reads-split, number-reads, reads-number}
+use Rattle.sizes.specs.Sizes.{within, capabilitiesSize, rootsSize, exportsSize, fieldsSize}
+use Rattle.sizes.specs.declared.Size.{Size}
+use Rattle.sizes.proofs.Within.{within-exactly}
+use Rattle.manifest.specs.declared.parts.Parsed.{Parsed}
+use Rattle.manifest.specs.declared.parts.Parsed.the-variants.{To}
+use Rattle.manifest.specs.declared.parts.Kind.{Kind}
+use Rattle.manifest.specs.declared.parts.Kind.the-variants.{Text, Root, Export, Field}
+use Rattle.manifest.specs.Shape.{stringEnd, fieldEnd, itemEnd, itemsEnd, countedEnd}
+use Rattle.manifest.specs.Content.{textAt, countAt, listFrom, rootsAt, exportsAt}
+use Rattle.soundness.specs.ManifestGrammar.{IsString, IsRoot, IsExport, IsField, IsCounted, counted}
+use Rattle.soundness.proofs.ManifestParses.{Parses, then-to, number-to, cond-to}
+use Rattle.soundness.proofs.ManifestPieces.{string-parses, root-parses, export-parses, fieldAt, field-parses}
+
+-- the things behind the count that stands at a position
+abbrev pub countedAt : {A : Type 0} → List ℕ → (ℕ → Parsed) → (ℕ → A) → ℕ → List A
+countedAt s end read at = onNumber (numberAt 4 s at) (λ n. listFrom end read n (at + 4)) []
+
+-- where a count and its things end, the count is within its size, and the things end there
+counted-number : {A : Type 0} (s : List ℕ) (kind : Kind) (size : Size) (at : ℕ) {e : ℕ} → countedEnd s kind size at ≡ To e →
+    ((n : ℕ) → numberAt 4 s at ≡ Value n → size .least ≤ n → n ≤ size .most → itemsEnd s kind n (at + 4) ≡ To e → A) → A
+unfolding countedEnd
+counted-number s kind size at g f =
+    number-to (numberAt 4 s at) _ g λ n h k.
+    let (w, m) = cond-to (within size n) _ k in
+    let (l, u) = within-exactly size n .0 w in
+    f n h l u m
+
+module _ {A : Type 0} (s : List ℕ) (kind : Kind) (read : ℕ → A) (Is : A → List ℕ → Type 0)
+    (parses : Parses s (itemEnd s kind) read Is) where
+  pub items-forth : (n : ℕ) {at e : ℕ} → at ≤ length s → itemsEnd s kind n at ≡ To e →
+      (b : List ℕ) × Reads s at e b × Sequence Is (listFrom (itemEnd s kind) read n at) b ×
+      (length (listFrom (itemEnd s kind) read n at) ≡ n)
+  unfolding itemsEnd listFrom
+  items-forth zero {at} {e} l g = let q : at ≡ e = cc in ([], rw (← q) (reads-none s at l), none, refl)
+  items-forth (suc n) {at} l g =
+      then-to (itemEnd s kind at) _ g λ p h k.
+      let (a, r, i) = parses .forth h in
+      let (b, t, j, m) = items-forth n (r .fits) k in
+      (a ++ b, reads-join r t, rw h (next i j), rw h (ap suc m))
+
+  pub items-back : {xs : List A} {b : List ℕ} {at e : ℕ} → Reads s at e b → Sequence Is xs b →
+      (itemsEnd s kind (length xs) at ≡ To e) × (listFrom (itemEnd s kind) read (length xs) at ≡ xs)
+  unfolding itemsEnd listFrom
+  items-back r none = (ap To (omega arith), refl)
+  items-back r (next {a = a} i j) =
+      let (p, t, u) = reads-split {b = a} r in
+      let (g, h) = parses .back t i in
+      let (k, m) = items-back u j in
+      (rw g k, rw (g, h, m))
+
+  counted-forth : (size : Size) {at e : ℕ} → countedEnd s kind size at ≡ To e →
+      (b : List ℕ) × Reads s at e b × IsCounted Is size (countedAt s (itemEnd s kind) read at) b
+  counted-forth size {at} g =
+      counted-number s kind size at g λ n h l u k.
+      let (a, r, m) = number-reads s at 4 h in
+      let (b, t, i, q) = items-forth n (r .fits) k in
+      let xs = listFrom (itemEnd s kind) read n (at + 4) in
+      (a ++ b, reads-join r t, rw h (counted {xs = xs} {n = a} (rw q m) (rw q l) (rw q u) i))
+
+  counted-back : (size : Size) {at e : ℕ} {b : List ℕ} {xs : List A} → Reads s at e b → IsCounted Is size xs b →
+      (countedEnd s kind size at ≡ To e) × (countedAt s (itemEnd s kind) read at ≡ xs)
+  unfolding countedEnd
+  counted-back size {at} r (counted {xs = xs} m l u i) =
+      let (p, a, t) = reads-split r in
+      let (k, q) = reads-number s at 4 a m in
+      let (g, h) = items-back (rw q at t) i in
+      (rw (k, within-exactly size (length xs) .1 (l, u)) g, rw k h)
+
+  pub counted-parses : (size : Size) →
+      Parses s (countedEnd s kind size) (countedAt s (itemEnd s kind) read) (IsCounted Is size)
+  counted-parses size = record { forth = counted-forth size; back = counted-back size }
+
+  -- the count is how many things are read
+  pub counted-length : (size : Size) (at : ℕ) {e : ℕ} → countedEnd s kind size at ≡ To e →
+      countAt s at ≡ length (countedAt s (itemEnd s kind) read at)
+  unfolding countAt
+  counted-length size at g =
+      counted-number s kind size at g λ n h l u k.
+      let (b, t, i, q) = items-forth n (number-reads s at 4 h .1 .fits) k in
+      rw (h, q)
+
+-- the four kinds
+module _ (s : List ℕ) where
+  pub text-kind : Parses s (itemEnd s Text) (λ p. textAt s (To p)) IsString
+  unfolding itemEnd
+  text-kind = string-parses s
+
+  pub text-counted : Parses s (countedEnd s Text capabilitiesSize) (countedAt s (stringEnd s) (λ p. textAt s (To p)))
+      (IsCounted IsString capabilitiesSize)
+  unfolding itemEnd
+  text-counted = counted-parses s Text _ _ (string-parses s) capabilitiesSize
+
+  pub root-counted : Parses s (countedEnd s Root rootsSize) (rootsAt s) (IsCounted IsRoot rootsSize)
+  unfolding itemEnd rootsAt
+  root-counted = counted-parses s Root _ _ (root-parses s) rootsSize
+
+  pub export-counted : Parses s (countedEnd s Export exportsSize) (exportsAt s) (IsCounted IsExport exportsSize)
+  unfolding itemEnd exportsAt
+  export-counted = counted-parses s Export _ _ (export-parses s) exportsSize
+
+  pub field-counted : Parses s (countedEnd s Field fieldsSize) (countedAt s (fieldEnd s) (fieldAt s))
+      (IsCounted IsField fieldsSize)
+  unfolding itemEnd
+  field-counted = counted-parses s Field _ _ (field-parses s) fieldsSize
+
+  pub text-length : (at : ℕ) {e : ℕ} → countedEnd s Text capabilitiesSize at ≡ To e →
+      countAt s at ≡ length (countedAt s (stringEnd s) (λ p. textAt s (To p)) at)
+  unfolding itemEnd
+  text-length at g = counted-length s Text _ _ (string-parses s) capabilitiesSize at g

@@ -1,0 +1,66 @@
+-- A node is its own descendant exactly where a record is by the links, and placing stops short exactly there (19).
+use Prim.Native.Nat.{ℕ, _≤_, _<_}
+use mathlib.Core.Path.{_≡_, refl, sym, _∙_}
+use mathlib.Core.Bool.{true}
+use mathlib.Core.Logic.{_↔_}
+use mathlib.Core.List.{List}
+use lib.ListN.{length}
+use borrow.Author.Tests.{ltb-true, lt-ltb}
+use Rattle.wire.specs.Relations.{Distinct}
+use Rattle.sizes.specs.Sizes.{nodesSize}
+use Rattle.placing.specs.Circles as byNumber
+use Rattle.placing.proofs.Circles.{short-exactly-on-circles}
+use Rattle.nodes.specs.Records.{Node, hashes}
+use Rattle.nodes.specs.Links.{linksOf, placedOf, circular}
+use Rattle.soundness.specs.Graph.{Child, named, Descendant, child, deeper, Circle}
+use Rattle.soundness.specs.NodesMeaning.{Closed}
+use Rattle.nodes.proofs.Children.{hashAt, number-of, record-at, link-child, child-link, links-ok, one-number}
+
+module _ (rs : List Node) where
+  link-down : (i j : ℕ) → i < length rs → byNumber.Descends (linksOf rs) i j → Descendant rs (hashAt rs i) (hashAt rs j)
+  link-down i j l (byNumber.child c) = child (named (record-at rs i l) refl (link-child rs i j l c .1))
+  link-down i k l (byNumber.deeper {j = j} c d) =
+      let (m, a) = link-child rs i j l c in
+      deeper (named (record-at rs i l) refl a) (link-down j k m d)
+
+  -- the other way round, from any record that has the hash
+  module _ (apart : Distinct (hashes rs)) (closed : Closed rs) where
+    child-down : {a b : List ℕ} → Child rs a b → (i : ℕ) × (i < length rs) × (hashAt rs i ≡ a) ×
+        (j : ℕ) × (j < length rs) × (hashAt rs j ≡ b) × byNumber.Child (linksOf rs) i j
+    child-down {a} {b} (named {r = r} x e y) =
+        let (i, l, f) = number-of x in
+        let (j, m, g, c) = child-link rs i l {h = b} (rw f y) (closed r x b y) in
+        (i, l, (cc), j, m, g, c)
+
+    abbrev Down : List ℕ → List ℕ → Type 0
+    Down a b = (i : ℕ) × (i < length rs) × (hashAt rs i ≡ a) ×
+        (j : ℕ) × (j < length rs) × (hashAt rs j ≡ b) × byNumber.Descends (linksOf rs) i j
+
+    down : {a b : List ℕ} → Descendant rs a b → Down a b
+    down (child c) = let (i, l, e, j, m, f, d) = child-down c in (i, l, e, j, m, f, byNumber.child d)
+    down (deeper c d) =
+        let (i, l, e, j, m, f, x) = child-down c in
+        let (k, n, g, o, p, h, y) = down d in
+        let z : j ≡ k = one-number rs apart j k m n (f ∙ sym g) in
+        (i, l, e, o, p, h, byNumber.deeper {k = o} x (rw z y))
+
+    pub circle-exactly : byNumber.Circle (linksOf rs) (length rs) ↔ Circle rs
+    circle-exactly = (
+      λ c. let (i, l, d) = c in (hashAt rs i, link-down i i l d),
+      λ c.
+          let (a, d) = c in
+          let (i, l, e, j, m, f, x) = down d in
+          let z : j ≡ i = one-number rs apart j i m l (f ∙ sym e) in
+          (i, l, rw z at x),
+    )
+
+    module _ (few : length rs ≤ nodesSize .most) where
+      pub short-exactly : (placedOf rs .count < length rs) ↔ Circle rs
+      unfolding placedOf
+      short-exactly =
+          let s = short-exactly-on-circles (linksOf rs) (length rs) (nodesSize .most) (links-ok rs few) in
+          (λ l. circle-exactly .0 (s .0 l), λ c. s .1 (circle-exactly .1 c))
+
+      pub circular-iff : (circular rs ≡ true) ↔ Circle rs
+      unfolding circular
+      circular-iff = (λ e. short-exactly .0 (ltb-true _ _ e), λ c. lt-ltb _ _ (short-exactly .1 c))

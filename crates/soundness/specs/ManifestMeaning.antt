@@ -1,0 +1,52 @@
+-- What the tests of a manifest mean, over what its bytes are. The proofs are in proofs/Meaning.antt.
+use Prim.Native.Nat.{ℕ, _≤_}
+use mathlib.Core.Path.{_≡_}
+use mathlib.Core.Bool.{false}
+use mathlib.Core.Logic.{_↔_}
+use mathlib.Core.List.{List, [], _∷_}
+use lib.ListN.{length}
+use Rattle.wire.specs.Relations.{Among, Distinct}
+use Rattle.sizes.specs.Sizes.{nameSize}
+use Rattle.manifest.specs.Content.{Root, Export, names}
+use Rattle.manifest.specs.Judged.{Wanted, exactly, anyText, abiName, nineStrings, malformed, unsupported, misnamed, rootsOf, exportsOf}
+use Rattle.soundness.specs.ManifestGrammar.{Contents, IsManifest}
+
+-- texts are what is wanted of them, one by one
+pub data Agree : List Wanted → List (List ℕ) → Type 0 where
+  none : Agree [] []
+  same : {t : List ℕ} {ws : List Wanted} {ts : List (List ℕ)} → Agree ws ts → Agree (exactly t ∷ ws) (t ∷ ts)
+  any : {t : List ℕ} {ws : List Wanted} {ts : List (List ℕ)} → Agree ws ts → Agree (anyText ∷ ws) (t ∷ ts)
+
+-- the fixed strings are those of document 01, no capability is listed, and the closure is complete
+pub record Supported (m : Contents) : Type 0 where
+  pub strings : Agree nineStrings (m .strings)
+  pub abis : (e : Export) → Among e (m .exports) → e .abi ≡ abiName
+  pub capabilities : m .capabilities ≡ []
+  pub closure : m .closure ≡ 0
+
+-- every export has a name of its own within the size
+pub record Named (m : Contents) : Type 0 where
+  pub sizes : (e : Export) → Among e (m .exports) → (nameSize .least ≤ length (e .name)) × (length (e .name) ≤ nameSize .most)
+  pub distinct : Distinct (names (m .exports))
+
+-- 12 does not hold exactly for the bytes of a manifest
+abbrev pub ShapedExactly : Type 0
+ShapedExactly = (s : List ℕ) → (malformed s ≡ false) ↔ ((m : Contents) × IsManifest m s)
+
+-- nor 13 where it is supported, nor 14 where its exports are named
+abbrev pub SupportedExactly : Type 0
+SupportedExactly = (s : List ℕ) (m : Contents) → IsManifest m s → (unsupported s ≡ false) ↔ Supported m
+
+abbrev pub NamedExactly : Type 0
+NamedExactly = (s : List ℕ) (m : Contents) → IsManifest m s → (misnamed s ≡ false) ↔ Named m
+
+-- the roots and exports that are read are the manifest's
+abbrev pub ReadsRoots : Type 0
+ReadsRoots = (s : List ℕ) (m : Contents) → IsManifest m s → rootsOf s ≡ m .roots
+
+abbrev pub ReadsExports : Type 0
+ReadsExports = (s : List ℕ) (m : Contents) → IsManifest m s → exportsOf s ≡ m .exports
+
+-- bytes are one manifest at most
+abbrev pub OneManifest : Type 0
+OneManifest = (s : List ℕ) (m n : Contents) → IsManifest m s → IsManifest n s → m ≡ n

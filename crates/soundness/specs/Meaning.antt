@@ -1,0 +1,62 @@
+-- What the answers of the checks and of the export calls mean. The proofs are in proofs/Meaning.antt.
+use Prim.Native.Nat.{ℕ, _<_}
+use mathlib.Core.Path.{_≡_}
+use mathlib.Core.Bool.{true, false}
+use mathlib.Core.Logic.{_↔_, _⊎_}
+use mathlib.Core.List.{List, []}
+use lib.ListN.{length, getD}
+use Rattle.wire.specs.Relations.{Among}
+use Rattle.calculus.specs.Tree.{Tree}
+use Rattle.manifest.specs.Content.{names}
+use Rattle.nodes.specs.Records.{Node}
+use Rattle.soundness.specs.Graph.{Names}
+use Rattle.bundle.specs.Checks.{Check, checks, nameRefusal, refusal}
+use Rattle.bundle.specs.Exports.{nameCall, indexCall, numbers}
+use Rattle.soundness.specs.Sound.{Sound}
+
+-- the checks 1 to 20 answer 0 exactly for a sound file
+abbrev pub AcceptedExactly : Type 0
+AcceptedExactly = (file : List ℕ) → (refusal file ≡ 0) ↔ Sound file
+
+-- a check that applies, with no lower number that does
+pub record Lowest (cs : List Check) (n : ℕ) : Type 0 where
+  pub check : Check
+  pub listed : Among check cs
+  pub number : check .number ≡ n
+  pub applies : check .holds ≡ true
+  pub lowest : (c : Check) → Among c cs → c .number < n → c .holds ≡ false
+
+-- any other file is answered by the lowest number that applies
+abbrev pub RefusedByLowest : Type 0
+RefusedByLowest = (file : List ℕ) → (refusal file ≡ 0) ⊎ Lowest (checks file) (refusal file)
+
+-- in a sound file the hash of every record names exactly one tree
+abbrev pub OneTreeEach : Type 0
+OneTreeEach =
+    (file : List ℕ) (sound : Sound file) (r : Node) → Among r (sound .nodes) →
+    (t : Tree) × Names (sound .nodes) (r .hash) t × ((u : Tree) → Names (sound .nodes) (r .hash) u → u ≡ t)
+
+-- in a sound file the name by index is the export's, and the index by name is that of the export with that name
+abbrev pub NameByIndex : Type 0
+NameByIndex =
+    (file : List ℕ) (sound : Sound file) (i : ℕ) → nameCall file i ≡ getD (names (sound .manifest .exports)) i []
+
+abbrev pub IndexByName : Type 0
+IndexByName =
+    (file : List ℕ) (sound : Sound file) (i : ℕ) → i < length (sound .manifest .exports) →
+    numbers (indexCall file (getD (names (sound .manifest .exports)) i [])) ≡ record { number = 0; index = i }
+
+abbrev pub NoSuchName : Type 0
+NoSuchName =
+    (file : List ℕ) (sound : Sound file) (name : List ℕ) → (name ≡ [] → ⊥) →
+    (Among name (names (sound .manifest .exports)) → ⊥) → numbers (indexCall file name) ≡ record { number = 25; index = 0 }
+
+abbrev pub EmptyName : Type 0
+EmptyName = (file : List ℕ) → Sound file → numbers (indexCall file []) ≡ record { number = 0; index = 0 }
+
+-- where one of 1 to 14 holds, the calls answer the empty part and that number
+abbrev pub NamesRefused : Type 0
+NamesRefused =
+    (file : List ℕ) → (nameRefusal file ≡ 0 → ⊥) →
+    ((i : ℕ) → nameCall file i ≡ []) ×
+    ((name : List ℕ) → numbers (indexCall file name) ≡ record { number = nameRefusal file; index = 0 })

@@ -1,0 +1,51 @@
+-- What the tests of a nodes section mean, over what its bytes are. The proofs are in proofs/Meaning.antt.
+use Prim.Native.Nat.{ℕ, _≤_}
+use mathlib.Core.Path.{_≡_}
+use mathlib.Core.Bool.{true, false}
+use mathlib.Core.Logic.{_↔_}
+use mathlib.Core.List.{List}
+use lib.ListN.{length}
+use Rattle.wire.specs.Relations.{Among, Distinct}
+use Rattle.sizes.specs.Sizes.{nodesSize}
+use Rattle.calculus.specs.Tree.{Tree}
+use Rattle.nodes.specs.declared.faults.Fault.the-variants.{Hash, Twice, Child as NoChild}
+use Rattle.nodes.specs.Records.{Node, children, shaped, nodesOf, nodeHash, hashes, someFaulty}
+use Rattle.nodes.specs.Links.{circular}
+use Rattle.soundness.specs.Graph.{Circle, Names}
+use Rattle.soundness.specs.NodesGrammar.{IsNodes}
+
+-- each record carries the hash of its payload
+abbrev pub Hashed : List Node → Type 0
+Hashed rs = (r : Node) → Among r rs → r .hash ≡ nodeHash (r .payload)
+
+-- every child has a record
+abbrev pub Closed : List Node → Type 0
+Closed rs = (r : Node) → Among r rs → (h : List ℕ) → Among h (children r) → Among h (hashes rs)
+
+-- 15 does not hold exactly for the bytes of some records, and those are read
+abbrev pub ShapedExactly : Type 0
+ShapedExactly = (s : List ℕ) → (shaped s ≡ true) ↔ ((rs : List Node) × IsNodes rs s)
+
+abbrev pub ReadsNodes : Type 0
+ReadsNodes = (s : List ℕ) (rs : List Node) → IsNodes rs s → nodesOf s ≡ rs
+
+-- nor 16 where each record carries its hash, nor 17 where no two carry one, nor 18 where every child is there
+abbrev pub HashedExactly : Type 0
+HashedExactly = (rs : List Node) → (someFaulty Hash rs rs ≡ false) ↔ Hashed rs
+
+abbrev pub DistinctExactly : Type 0
+DistinctExactly = (rs : List Node) → (someFaulty Twice rs rs ≡ false) ↔ Distinct (hashes rs)
+
+abbrev pub ClosedExactly : Type 0
+ClosedExactly = (rs : List Node) → (someFaulty NoChild rs rs ≡ false) ↔ Closed rs
+
+-- 19 holds exactly when some node is its own descendant, where 17 and 18 do not hold
+abbrev pub CircularExactly : Type 0
+CircularExactly =
+    (rs : List Node) → length rs ≤ nodesSize .most → Distinct (hashes rs) → Closed rs → (circular rs ≡ true) ↔ Circle rs
+
+-- the hash of every record names exactly one tree, where 17, 18 and 19 do not hold
+abbrev pub OneTreeEach : Type 0
+OneTreeEach =
+    (rs : List Node) → length rs ≤ nodesSize .most → Distinct (hashes rs) → Closed rs → (Circle rs → ⊥) →
+    (r : Node) → Among r rs → (t : Tree) × Names rs (r .hash) t × ((u : Tree) → Names rs (r .hash) u → u ≡ t)
