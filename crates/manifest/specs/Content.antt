@@ -1,7 +1,7 @@
 -- What stands in a manifest: texts, hashes, roots and exports, read at positions of the section.
 use Prim.Native.Nat.{ℕ, zero, suc, _+_}
 use mathlib.Core.List.{List, [], _∷_}
-use Rattle.wire.specs.Wire.{numberAt, span, onNumber}
+use Rattle.wire.specs.Wire.{numberAt, span, onNumber, orZero}
 use Rattle.manifest.specs.declared.parts.Parsed.{Parsed}
 use Rattle.manifest.specs.declared.parts.Parsed.the-variants.{To, Bad}
 use Rattle.manifest.specs.Shape.{onParsed, andThen, bytesEnd, stringEnd, rootEnd, exportEnd}
@@ -52,7 +52,7 @@ exportsFrom s n at = listFrom (exportEnd s) (exportAt s) n at
 
 -- the count that stands at a position
 unfoldable pub countAt : List ℕ → ℕ → ℕ
-countAt s at = onNumber (numberAt 4 s at) (λ n. n) 0
+countAt s at = orZero (numberAt 4 s at)
 
 -- the things behind the count that stands at a position
 unfoldable pub rootsAt : List ℕ → ℕ → List Root

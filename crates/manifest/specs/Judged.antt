@@ -107,7 +107,7 @@ rootsOf s = onShape (manifestOf s) (λ l. rootsAt s (l .roots)) []
 unfoldable pub exportsOf : List ℕ → List Export
 exportsOf s = onShape (manifestOf s) (λ l. exportsAt s (l .exports)) []
 
--- the name of an export by its index, and the index of an export by its name; the empty name is the first export's
+-- the name of an export by its index, and the index of an export by its name
 unfoldable pub exportName : List ℕ → ℕ → List ℕ
 exportName s i = getD (names (exportsOf s)) i []
 

@@ -31,8 +31,5 @@ pub fn hash_at(s: &[u8], p: Parsed) -> &[u8]
 pub fn count_at(s: &[u8], at: usize) -> u64
     ensures { λ r. ⌜ r ≡ countAt (now (s .entry)) at ⌝ }
 {
-    match wire::u32_at(s, at) {
-        Num::Value(n) => n,
-        Num::Short => 0,
-    }
+    wire::u32_at(s, at).or_zero()
 }

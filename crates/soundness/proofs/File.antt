@@ -1,4 +1,4 @@
--- None of 1 to 20 holds exactly for a sound file: row by row.
+-- None of 1 to 14 holds exactly for a described file, and none of 1 to 20 exactly for a sound one: row by row.
 use Prim.Native.Nat.{ℕ, _≤_}
 use mathlib.Core.Path.{_≡_, refl}
 use mathlib.Core.List.{List, _++_}
@@ -16,7 +16,7 @@ use Rattle.soundness.proofs.NodesMeaning.{shaped-exactly as nodes-exact
 use Rattle.soundness.proofs.NodesMeaning.{closed-exactly, circular-exactly}
 use Rattle.bundle.specs.Directory.{entries, manifestSection, nodesSection}
 use Rattle.bundle.specs.Checks.{headerChecks, directoryChecks, manifestChecks, nodeChecks, nameChecks, checks}
-use Rattle.soundness.specs.Sound.{Sound}
+use Rattle.soundness.specs.Sound.{Described, Sound}
 use Rattle.bundle.proofs.Rows.{Clear, clear-parts}
 use Rattle.bundle.proofs.HeaderLaws.{most-exactly, least-exactly, magic-exactly, major-exactly, directory-exactly}
 use Rattle.soundness.proofs.Directory.{entries-exactly, once-exactly}
@@ -50,25 +50,18 @@ module _ (file : List ℕ) where
       let inner = clear-parts (directoryChecks file) (manifestChecks m) in
       (λ h. let (a, b) = outer .0 h in let (c, d) = inner .0 b in (a, c, d), λ h. outer .1 (h .0, inner .1 (h .1, h .2)))
 
-  pub clear-sound : Clear (checks file) → Sound file
-  unfolding headerChecks directoryChecks manifestChecks nodeChecks
-  clear-sound h =
-      let (names, (r15, (r16, (r17, (r18, (r19, (r20, _))))))) = all-exactly .0 h in
-      let (header, directory, (r12, (r13, (r14, _)))) = names-exactly .0 names in
+  pub clear-described : Clear (nameChecks file) → Described file
+  unfolding headerChecks directoryChecks manifestChecks
+  clear-described h =
+      let (header, directory, (r12, (r13, (r14, _)))) = names-exactly .0 h in
       let (r1, (r2, (r3, (r4, (r5, _))))) = header in
       let (r6, (r7, (r8, (r9, (r10, (r11, _)))))) = directory in
       let least = least-exactly file .0 r2 in
       let (sections-least, sections-most, offset, inside) = directory-exactly file .0 r5 in
       let (one-manifest, one-nodes) = once-exactly file .0 (r9, r10) in
       let (c, is) = shaped-exactly m .0 r12 in
-      let (rs, are) = nodes-exactly s .0 (not-false _ r15) in
-      let e = reads-nodes s rs are in
-      let distinct = distinct-exactly rs .0 (rw e at r17) in
-      let closed = closed-exactly rs .0 (rw e at r18) in
-      let (roots, exports) = resolved-exactly m s e (reads-roots m c is) (reads-exports m c is) .0 r20 in
       record {
         manifest = c;
-        nodes = rs;
         least = least;
         most = most-exactly file .0 r1;
         magic = magic-exactly file least .0 r3;
@@ -83,6 +76,23 @@ module _ (file : List ℕ) where
         is-manifest = is;
         supported = supported-exactly m c is .0 r13;
         named = named-exactly m c is .0 r14;
+      }
+
+  pub clear-sound : Clear (checks file) → Sound file
+  unfolding nodeChecks
+  clear-sound h =
+      let (names, (r15, (r16, (r17, (r18, (r19, (r20, _))))))) = all-exactly .0 h in
+      let d = clear-described names in
+      let c = d .manifest in
+      let is = d .is-manifest in
+      let (rs, are) = nodes-exactly s .0 (not-false _ r15) in
+      let e = reads-nodes s rs are in
+      let distinct = distinct-exactly rs .0 (rw e at r17) in
+      let closed = closed-exactly rs .0 (rw e at r18) in
+      let (roots, exports) = resolved-exactly m s e (reads-roots m c is) (reads-exports m c is) .0 r20 in
+      record {
+        described = d;
+        nodes = rs;
         is-nodes = are;
         hashed = hashed-exactly rs .0 (rw e at r16);
         distinct = distinct;
@@ -92,20 +102,20 @@ module _ (file : List ℕ) where
         exports = exports;
       }
 
-  module _ (sound : Sound file) where
+  module _ (d : Described file) where
     header-clear : Clear (headerChecks file)
     unfolding headerChecks
     header-clear = (
-      most-exactly file .1 (sound .most),
+      most-exactly file .1 (d .most),
       (
-        least-exactly file .1 (sound .least),
+        least-exactly file .1 (d .least),
         (
-          magic-exactly file (sound .least) .1 (sound .magic),
+          magic-exactly file (d .least) .1 (d .magic),
           (
-            major-exactly file (sound .least) .1 (sound .major),
+            major-exactly file (d .least) .1 (d .major),
             (
               directory-exactly file .1
-                  (sound .sections-least, sound .sections-most, sound .directory-offset, sound .directory-inside),
+                  (d .sections-least, d .sections-most, d .directory-offset, d .directory-inside),
               tt,
             ),
           ),
@@ -116,26 +126,30 @@ module _ (file : List ℕ) where
     directory-clear : Clear (directoryChecks file)
     unfolding directoryChecks
     directory-clear =
-        let (critical, coded, outside, altered) = entries-exactly file (entries file) .1 (sound .sound-entries) in
-        let (repeated, missing) = once-exactly file .1 (sound .one-manifest, sound .one-nodes) in
+        let (critical, coded, outside, altered) = entries-exactly file (entries file) .1 (d .sound-entries) in
+        let (repeated, missing) = once-exactly file .1 (d .one-manifest, d .one-nodes) in
         (critical, (coded, (outside, (repeated, (missing, (altered, tt))))))
 
     manifest-clear : Clear (manifestChecks m)
     unfolding manifestChecks
     manifest-clear =
-        let c = sound .manifest in
-        let is = sound .is-manifest in (
+        let c = d .manifest in
+        let is = d .is-manifest in (
           shaped-exactly m .1 (c, is),
-          (supported-exactly m c is .1 (sound .supported), (named-exactly m c is .1 (sound .named), tt)),
+          (supported-exactly m c is .1 (d .supported), (named-exactly m c is .1 (d .named), tt)),
         )
 
+    pub described-clear : Clear (nameChecks file)
+    described-clear = names-exactly .1 (header-clear, directory-clear, manifest-clear)
+
+  module _ (sound : Sound file) where
     node-clear : Clear (nodeChecks m s)
     unfolding nodeChecks
     node-clear =
         let rs = sound .nodes in
         let are = sound .is-nodes in
-        let c = sound .manifest in
-        let is = sound .is-manifest in
+        let c = sound .described .manifest in
+        let is = sound .described .is-manifest in
         let e = reads-nodes s rs are in
         let circles = circular-exactly rs (few-nodes are) (sound .distinct) (sound .closed) in (
           rw (nodes-exactly s .1 (rs, are)),
@@ -154,8 +168,5 @@ module _ (file : List ℕ) where
           ),
         )
 
-    pub names-clear : Clear (nameChecks file)
-    names-clear = names-exactly .1 (header-clear, directory-clear, manifest-clear)
-
     pub sound-clear : Clear (checks file)
-    sound-clear = all-exactly .1 (names-clear, node-clear)
+    sound-clear = all-exactly .1 (described-clear (sound .described), node-clear)

@@ -17,19 +17,30 @@ use Rattle.bundle.specs.Directory.{manifestSection}
 use Rattle.bundle.specs.Checks.{headerChecks, directoryChecks, manifestChecks, nodeChecks, nameChecks, checks}
 use Rattle.bundle.specs.Checks.{nameRefusal, refusal}
 use Rattle.bundle.specs.Exports.{nameCall, indexAsked, indexCall, answerOf, numbers}
-use Rattle.soundness.specs.Sound.{Sound}
-use Rattle.soundness.specs.Meaning.{AcceptedExactly, RefusedByLowest, OneTreeEach, NameByIndex, IndexByName}
+use Rattle.soundness.specs.Sound.{Described, Sound}
+use Rattle.soundness.specs.Meaning.{DescribedExactly, AcceptedExactly, RefusedByLowest, OneTreeEach, NameByIndex, IndexByName}
 use Rattle.soundness.specs.Meaning.{NoSuchName, EmptyName, NamesRefused}
 use Rattle.bundle.proofs.Rows.{Ascends, clear-first, first-clear}
 use Rattle.soundness.proofs.Lowest.{first-lowest}
 use Rattle.soundness.proofs.Each.{each-exactly}
-use Rattle.soundness.proofs.File.{few-nodes, clear-sound, names-clear, sound-clear}
+use Rattle.soundness.proofs.File.{few-nodes, clear-described, clear-sound, described-clear, sound-clear}
 use Rattle.soundness.proofs.Calls.{names-length, found-there, name-read, index-asked, asked-name}
 
 -- the numbers of the rows ascend
+names-ascend : (file : List ℕ) → Ascends 0 (nameChecks file)
+unfolding nameChecks headerChecks directoryChecks manifestChecks
+names-ascend file = omega arith
+
 ascending : (file : List ℕ) → Ascends 0 (checks file)
 unfolding checks nameChecks headerChecks directoryChecks manifestChecks nodeChecks
 ascending file = omega arith
+
+pub described-exactly : DescribedExactly
+unfolding nameRefusal
+described-exactly file = (
+  λ e. clear-described file (first-clear 0 (nameChecks file) (names-ascend file) e),
+  λ d. clear-first (nameChecks file) (described-clear file d),
+)
 
 pub accepted-exactly : AcceptedExactly
 unfolding refusal
@@ -39,51 +50,52 @@ accepted-exactly file = (
 )
 
 pub refused-by-lowest : RefusedByLowest
-unfolding refusal
-refused-by-lowest file = first-lowest 0 (checks file) (ascending file)
+unfolding nameRefusal refusal
+refused-by-lowest file =
+    (first-lowest 0 (nameChecks file) (names-ascend file), first-lowest 0 (checks file) (ascending file))
 
 pub one-tree-each : OneTreeEach
 one-tree-each file sound r a =
     one-tree-of (sound .nodes) (few-nodes (sound .is-nodes)) (sound .distinct) (sound .closed) (sound .acyclic) r a
 
--- a sound file is not refused by 1 to 14, and its exports are read
-module _ (file : List ℕ) (sound : Sound file) where
+-- a described file is not refused by 1 to 14, and its exports are read
+module _ (file : List ℕ) (d : Described file) where
   fine : nameRefusal file ≡ 0
   unfolding nameRefusal
-  fine = clear-first (nameChecks file) (names-clear file sound)
+  fine = clear-first (nameChecks file) (described-clear file d)
 
-  read : exportsOf (manifestSection file) ≡ sound .manifest .exports
-  read = reads-exports (manifestSection file) (sound .manifest) (sound .is-manifest)
+  read : exportsOf (manifestSection file) ≡ d .manifest .exports
+  read = reads-exports (manifestSection file) (d .manifest) (d .is-manifest)
 
   -- what a name that is not empty is answered
-  asked : {name : List ℕ} {f : Found} → (name ≡ [] → ⊥) → indexOf name 0 (names (sound .manifest .exports)) ≡ f →
+  asked : {name : List ℕ} {f : Found} → (name ≡ [] → ⊥) → indexOf name 0 (names (d .manifest .exports)) ≡ f →
       indexCall file name ≡ answerOf f
   asked {name} h e = rw (index-asked file fine name, asked-name (manifestSection file) name h, read, e)
 
-  no-empty-name : (name : List ℕ) → Among name (names (sound .manifest .exports)) → name ≡ [] → ⊥
+  no-empty-name : (name : List ℕ) → Among name (names (d .manifest .exports)) → name ≡ [] → ⊥
   unfolding names
   no-empty-name =
-      each-exactly (λ e. e .name) names refl (λ e es. refl) _ (sound .manifest .exports) .1
-      (λ e a q. omega (arith, sound .named .sizes e a .0, ap length q))
+      each-exactly (λ e. e .name) names refl (λ e es. refl) _ (d .manifest .exports) .1
+      (λ e a q. omega (arith, d .named .sizes e a .0, ap length q))
 
 pub name-by-index : NameByIndex
-name-by-index file sound i = name-read file (fine file sound) i ∙ rw (read file sound)
+name-by-index file d i = name-read file (fine file d) i ∙ rw (read file d)
 
 pub index-by-name : IndexByName
-index-by-name file sound i h =
-    let ns = names (sound .manifest .exports) in
+index-by-name file d i h =
+    let ns = names (d .manifest .exports) in
     let l : i < length ns = rw names-length h in
-    let e = found-there ns i (sound .named .distinct) l in
-    ap numbers (asked file sound (no-empty-name file sound (getD ns i []) (index-among [] ns i l)) e)
+    let e = found-there ns i (d .named .distinct) l in
+    ap numbers (asked file d (no-empty-name file d (getD ns i []) (index-among [] ns i l)) e)
 
 pub no-such-name : NoSuchName
-no-such-name file sound name h n =
-    let ns = names (sound .manifest .exports) in
-    ap numbers (asked file sound h (found-not (indexOf name 0 ns) (apart-unfound name 0 ns n)))
+no-such-name file d name h n =
+    let ns = names (d .manifest .exports) in
+    ap numbers (asked file d h (found-not (indexOf name 0 ns) (apart-unfound name 0 ns n)))
 
 pub empty-name : EmptyName
 unfolding indexAsked
-empty-name file sound = ap numbers (index-asked file (fine file sound) [])
+empty-name file d = ap numbers (index-asked file (fine file d) [])
 
 pub names-refused : NamesRefused
 unfolding nameCall indexCall

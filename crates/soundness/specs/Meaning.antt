@@ -10,11 +10,14 @@ use Rattle.calculus.specs.Tree.{Tree}
 use Rattle.manifest.specs.Content.{names}
 use Rattle.nodes.specs.Records.{Node}
 use Rattle.soundness.specs.Graph.{Names}
-use Rattle.bundle.specs.Checks.{Check, checks, nameRefusal, refusal}
+use Rattle.bundle.specs.Checks.{Check, nameChecks, checks, nameRefusal, refusal}
 use Rattle.bundle.specs.Exports.{nameCall, indexCall, numbers}
-use Rattle.soundness.specs.Sound.{Sound}
+use Rattle.soundness.specs.Sound.{Described, Sound}
 
--- the checks 1 to 20 answer 0 exactly for a sound file
+-- the checks 1 to 14 answer 0 exactly for a described file, the checks 1 to 20 exactly for a sound one
+abbrev pub DescribedExactly : Type 0
+DescribedExactly = (file : List ℕ) → (nameRefusal file ≡ 0) ↔ Described file
+
 abbrev pub AcceptedExactly : Type 0
 AcceptedExactly = (file : List ℕ) → (refusal file ≡ 0) ↔ Sound file
 
@@ -28,7 +31,10 @@ pub record Lowest (cs : List Check) (n : ℕ) : Type 0 where
 
 -- any other file is answered by the lowest number that applies
 abbrev pub RefusedByLowest : Type 0
-RefusedByLowest = (file : List ℕ) → (refusal file ≡ 0) ⊎ Lowest (checks file) (refusal file)
+RefusedByLowest =
+    (file : List ℕ) →
+    ((nameRefusal file ≡ 0) ⊎ Lowest (nameChecks file) (nameRefusal file)) ×
+    ((refusal file ≡ 0) ⊎ Lowest (checks file) (refusal file))
 
 -- in a sound file the hash of every record names exactly one tree
 abbrev pub OneTreeEach : Type 0
@@ -36,23 +42,24 @@ OneTreeEach =
     (file : List ℕ) (sound : Sound file) (r : Node) → Among r (sound .nodes) →
     (t : Tree) × Names (sound .nodes) (r .hash) t × ((u : Tree) → Names (sound .nodes) (r .hash) u → u ≡ t)
 
--- in a sound file the name by index is the export's, and the index by name is that of the export with that name
+-- in a described file the name by index is the export's, and the empty part past the last
 abbrev pub NameByIndex : Type 0
 NameByIndex =
-    (file : List ℕ) (sound : Sound file) (i : ℕ) → nameCall file i ≡ getD (names (sound .manifest .exports)) i []
+    (file : List ℕ) (d : Described file) (i : ℕ) → nameCall file i ≡ getD (names (d .manifest .exports)) i []
 
+-- the index by name is that of the export with that name; with no such name it is 25; the empty name is the first export
 abbrev pub IndexByName : Type 0
 IndexByName =
-    (file : List ℕ) (sound : Sound file) (i : ℕ) → i < length (sound .manifest .exports) →
-    numbers (indexCall file (getD (names (sound .manifest .exports)) i [])) ≡ record { number = 0; index = i }
+    (file : List ℕ) (d : Described file) (i : ℕ) → i < length (d .manifest .exports) →
+    numbers (indexCall file (getD (names (d .manifest .exports)) i [])) ≡ record { number = 0; index = i }
 
 abbrev pub NoSuchName : Type 0
 NoSuchName =
-    (file : List ℕ) (sound : Sound file) (name : List ℕ) → (name ≡ [] → ⊥) →
-    (Among name (names (sound .manifest .exports)) → ⊥) → numbers (indexCall file name) ≡ record { number = 25; index = 0 }
+    (file : List ℕ) (d : Described file) (name : List ℕ) → (name ≡ [] → ⊥) →
+    (Among name (names (d .manifest .exports)) → ⊥) → numbers (indexCall file name) ≡ record { number = 25; index = 0 }
 
 abbrev pub EmptyName : Type 0
-EmptyName = (file : List ℕ) → Sound file → numbers (indexCall file []) ≡ record { number = 0; index = 0 }
+EmptyName = (file : List ℕ) → Described file → numbers (indexCall file []) ≡ record { number = 0; index = 0 }
 
 -- where one of 1 to 14 holds, the calls answer the empty part and that number
 abbrev pub NamesRefused : Type 0

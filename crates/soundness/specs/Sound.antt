@@ -28,9 +28,9 @@ pub record SoundEntry (file : List ℕ) (e : Entry) : Type 0 where
   pub inside : e .offset + e .size ≤ length file
   pub digest : known (e .kind) ≡ true → sha256 (sectionOf file e) ≡ digestOf file e
 
-pub record Sound (file : List ℕ) : Type 0 where
+-- what 1 to 14 ask of a file: its header, its directory and its manifest
+pub record Described (file : List ℕ) : Type 0 where
   pub manifest : Contents
-  pub nodes : List Node
   -- the header
   pub least : fileSize .least ≤ length file
   pub most : length file ≤ fileSize .most
@@ -48,12 +48,15 @@ pub record Sound (file : List ℕ) : Type 0 where
   pub is-manifest : IsManifest manifest (manifestSection file)
   pub supported : Supported manifest
   pub named : Named manifest
-  -- the nodes
+
+-- what 1 to 20 ask of a file: its nodes too, and that every root and export is one of them
+pub record Sound (file : List ℕ) : Type 0 where
+  pub described : Described file
+  pub nodes : List Node
   pub is-nodes : IsNodes nodes (nodesSection file)
   pub hashed : Hashed nodes
   pub distinct : Distinct (hashes nodes)
   pub closed : Closed nodes
   pub acyclic : Circle nodes → ⊥
-  -- every root and export has a record
-  pub roots : (r : Root) → Among r (manifest .roots) → Among (r .hash) (hashes nodes)
-  pub exports : (e : Export) → Among e (manifest .exports) → Among (e .hash) (hashes nodes)
+  pub roots : (r : Root) → Among r (described .manifest .roots) → Among (r .hash) (hashes nodes)
+  pub exports : (e : Export) → Among e (described .manifest .exports) → Among (e .hash) (hashes nodes)
