@@ -40,12 +40,12 @@ module _ (file : List ℕ) where
 module _ (file : List ℕ) (n p : ℕ) (h : 0 < n) {e : Entry} (g : e ≡ entryAt file p) where
   pub faulty-here : (fault : Fault) {b : Bool} → b ≡ faulty file fault e → b ≡ true →
       someFaulty file fault (entriesFrom file n p) ≡ true
-  unfolding someOf
+  unfolding someFaulty someOf
   faulty-here fault f t = rw (entries-more file n p h g, ← f, t)
 
   pub faulty-next : (fault : Fault) {b : Bool} → b ≡ faulty file fault e → b ≡ false →
       someFaulty file fault (entriesFrom file n p) ≡ someFaulty file fault (entriesFrom file (n - 1) (p + entryBytes))
-  unfolding someOf
+  unfolding someFaulty someOf
   faulty-next fault f t = rw (entries-more file n p h g, ← f, t)
 
   pub counted-here : (kind seen : ℕ) → e .kind ≡ kind →
@@ -72,7 +72,7 @@ module _ (file : List ℕ) (n p : ℕ) (h : 0 < n) {e : Entry} (g : e ≡ entryA
 -- behind the last entry
 module _ (file : List ℕ) (n p : ℕ) (h : n ≤ 0) where
   pub faulty-end : (fault : Fault) → someFaulty file fault (entriesFrom file n p) ≡ false
-  unfolding someOf
+  unfolding someFaulty someOf
   faulty-end fault = rw (entries-end file n p h)
 
   pub counted-end : (kind seen : ℕ) → seen + occurrences kind (entriesFrom file n p) ≡ seen

@@ -58,7 +58,7 @@ faulty file Outside e = ltb (length file) (e .offset + e .size)
 faulty file Altered e = cond (known (e .kind)) (not (sameBytes (sha256 (sectionOf file e)) (digestOf file e))) false
 
 -- some entry has the fault
-abbrev pub someFaulty : List ℕ → Fault → List Entry → Bool
+unfoldable pub someFaulty : List ℕ → Fault → List Entry → Bool
 someFaulty file fault es = someOf (λ e rest. faulty file fault e) es
 
 -- how many entries have the type

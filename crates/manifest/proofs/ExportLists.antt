@@ -35,11 +35,11 @@ module _ {es : List Export} where
 
     module _ (fault : Fault) {b : Bool} (test : b ≡ faulty fault e rest) where
       pub fault-here : b ≡ true → someFaulty fault es ≡ true
-      unfolding someOf
+      unfolding someFaulty someOf
       fault-here h = rw (first, ← test, h)
 
       pub fault-later : b ≡ false → someFaulty fault es ≡ someFaulty fault rest
-      unfolding someOf
+      unfolding someFaulty someOf
       fault-later h = rw (first, ← test, h)
 
   module _ (none : es ≡ []) where
@@ -52,5 +52,5 @@ module _ {es : List Export} where
     name-none i = rw none
 
     pub fault-none : (fault : Fault) → someFaulty fault es ≡ false
-    unfolding someOf
+    unfolding someFaulty someOf
     fault-none fault = rw none

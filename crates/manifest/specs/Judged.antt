@@ -67,7 +67,7 @@ faulty NameSize e rest = not (within nameSize (length (e .name)))
 faulty NameTwice e rest = found (indexOf (e .name) 0 (names rest))
 
 -- some export has the fault
-abbrev pub someFaulty : Fault → List Export → Bool
+unfoldable pub someFaulty : Fault → List Export → Bool
 someFaulty fault es = someOf (faulty fault) es
 
 -- what is asked of a manifest that has the stated shape

@@ -57,7 +57,7 @@ module _ (s : List ℕ) where
   find-none n p h i l = rw (records-none n p l)
 
   pub faulty-none : (n p : ℕ) (fault : Fault) (all : List Node) → n ≤ 0 → someFaulty fault all (records s n p) ≡ false
-  unfolding someOf
+  unfolding someFaulty someOf
   faulty-none n p fault all l = rw (records-none n p l)
 
   -- as many as asked for, where they have an end; at most as many in any case
@@ -108,14 +108,14 @@ module _ (s : List ℕ) where
     -- a fault; t is whether the record has it
     module _ (fault : Fault) (all : List Node) where
       pub faulty-past : x ≡ Past → someFaulty fault all (records s n p) ≡ false
-      unfolding someOf
+      unfolding someFaulty someOf
       faulty-past f = rw (records-past f)
 
       module _ {q : ℕ} (f : x ≡ At q) {t : Bool} (et : t ≡ faulty fault all (recordAt s p q) (records s (n - 1) q)) where
         pub faulty-hit : t ≡ true → someFaulty fault all (records s n p) ≡ true
-        unfolding someOf
+        unfolding someFaulty someOf
         faulty-hit g = rw (records-on f, ← et, g)
 
         pub faulty-on : t ≡ false → someFaulty fault all (records s n p) ≡ someFaulty fault all (records s (n - 1) q)
-        unfolding someOf
+        unfolding someFaulty someOf
         faulty-on g = rw (records-on f, ← et, g)

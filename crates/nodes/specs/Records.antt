@@ -86,5 +86,5 @@ faulty Twice all r rest = found (indexOf (r .hash) 0 (hashes rest))
 faulty Child all r rest = lacks all (children r)
 
 -- some record has the fault
-abbrev pub someFaulty : Fault → List Node → List Node → Bool
+unfoldable pub someFaulty : Fault → List Node → List Node → Bool
 someFaulty fault all rs = someOf (faulty fault all) rs

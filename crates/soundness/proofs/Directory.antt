@@ -50,6 +50,7 @@ module _ (file : List ℕ) where
   -- none of some entries has it
   none-faulty : (fault : Fault) (Fine : Entry → Type 0) → ((e : Entry) → (faulty file fault e ≡ false) ↔ Fine e) →
       (es : List Entry) → (someFaulty file fault es ≡ false) ↔ ((e : Entry) → Among e es → Fine e)
+  unfolding someFaulty
   none-faulty fault Fine fine es = none-exactly (λ e rest. faulty file fault e) Fine (λ e rest. fine e) es
 
   -- 6, 7, 8 and 11

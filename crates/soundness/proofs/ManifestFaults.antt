@@ -17,14 +17,14 @@ use Rattle.manifest.specs.Content.{Export, names}
 use Rattle.manifest.specs.Judged.{abiName, faulty, someFaulty}
 
 pub abis-exactly : (es : List Export) → (someFaulty Abi es ≡ false) ↔ ((e : Export) → Among e es → e .abi ≡ abiName)
-unfolding faulty
+unfolding someFaulty faulty
 abis-exactly = none-exactly (faulty Abi) _ (λ e rest. not-exactly _ (same-exactly (e .abi) abiName))
 
 pub sizes-exactly : (es : List Export) → (someFaulty NameSize es ≡ false) ↔
     ((e : Export) → Among e es → (nameSize .least ≤ length (e .name)) × (length (e .name) ≤ nameSize .most))
-unfolding faulty
+unfolding someFaulty faulty
 sizes-exactly = none-exactly (faulty NameSize) _ (λ e rest. not-exactly _ (within-exactly nameSize (length (e .name))))
 
 pub names-exactly : (es : List Export) → (someFaulty NameTwice es ≡ false) ↔ Distinct (names es)
-unfolding faulty names
+unfolding someFaulty faulty names
 names-exactly es = rw (again-repeats (λ e. e .name) names refl (λ e rest. refl) es) (repeats-exactly (names es))

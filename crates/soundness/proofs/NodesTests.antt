@@ -36,16 +36,16 @@ module _ (all : List Node) where
 module _ (all rs : List Node) where
   -- 16
   pub right-exactly : (someFaulty Hash all rs ≡ false) ↔ ((r : Node) → Among r rs → r .hash ≡ nodeHash (r .payload))
-  unfolding faulty
+  unfolding someFaulty faulty
   right-exactly = none-exactly (faulty Hash all) _ (λ r rest. not-exactly _ (same-exactly (r .hash) (nodeHash (r .payload)))) rs
 
   -- 17
   pub once-exactly : (someFaulty Twice all rs ≡ false) ↔ Distinct (hashes rs)
-  unfolding faulty hashes
+  unfolding someFaulty faulty hashes
   once-exactly = rw (again-repeats (λ r. r .hash) hashes refl (λ r rest. refl) rs) (repeats-exactly (hashes rs))
 
   -- 18
   pub there-exactly : (someFaulty Child all rs ≡ false) ↔
       ((r : Node) → Among r rs → (h : List ℕ) → Among h (children r) → Among h (hashes all))
-  unfolding faulty
+  unfolding someFaulty faulty
   there-exactly = none-exactly (faulty Child all) _ (λ r rest. lacks-exactly all (children r)) rs

@@ -32,7 +32,7 @@ returns c = rw (
 ) (c .some-faulty-from .ensures)
 
 returns-2 : tie.Need-returns-2
-unfolding exportsAt someOf
+unfolding exportsAt someFaulty someOf
 returns-2 c = rw (← c .before .before .u32-at .ensures, c .enum-told .given .1)
 
 pub some-faulty-spec : {M : Type 1} → statement M
