@@ -195,7 +195,7 @@ fn missing(file: &[u8], n: u64) -> bool
 }
 
 // 6 to 11, of a file whose directory lies in it.
-pub fn check_directory(file: &[u8]) -> u32
+pub(crate) fn check_directory(file: &[u8]) -> u32
     requires { ⌜ headerBytes + entryBytes * sectionCount (now file) ≤ length (now file) ⌝ }
     ensures { λ r. ⌜ r ≡ firstOf (directoryChecks (now (file .entry))) ⌝ }
 {

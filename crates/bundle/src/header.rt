@@ -5,11 +5,11 @@ ghost use Rattle.bundle.specs.Checks.{firstOf, headerChecks};
 use sizes::Size;
 
 // Bytes of the header, and of a directory entry.
-pub const HEADER: usize = 32;
+pub(crate) const HEADER: usize = 32;
 
-pub const ENTRY: usize = 60;
+pub(crate) const ENTRY: usize = 60;
 
-pub fn section_count(file: &[u8]) -> u64
+pub(crate) fn section_count(file: &[u8]) -> u64
     ensures { λ r. ⌜ r ≡ sectionCount (now (file .entry)) ⌝ }
 {
     wire::u32_at(file, 12).or_zero()
@@ -29,7 +29,7 @@ fn no_directory(file: &[u8]) -> bool
     file.len() < HEADER + ENTRY * n as usize
 }
 
-pub fn check_header(file: &[u8]) -> u32
+pub(crate) fn check_header(file: &[u8]) -> u32
     ensures { λ r. ⌜ r ≡ firstOf (headerChecks (now (file .entry))) ⌝ }
 {
     let size = Size::FILE;

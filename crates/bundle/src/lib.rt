@@ -12,8 +12,8 @@ use nodes::faults::Fault;
 
 pub mod directory;
 pub mod exports;
-pub mod header;
-pub mod references;
+mod header;
+mod references;
 
 // 12 to 14, of a manifest section.
 fn check_manifest(m: &[u8]) -> u32

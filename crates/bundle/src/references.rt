@@ -71,7 +71,7 @@ fn lost(m: &[u8], kind: Reference, at: usize, s: &[u8]) -> bool
 }
 
 // 20: a root's or export's hash has no record.
-pub fn unresolved(m: &[u8], s: &[u8]) -> bool
+pub(crate) fn unresolved(m: &[u8], s: &[u8]) -> bool
     ensures { λ r. ⌜ r ≡ unresolved (now (m .entry)) (now (s .entry)) ⌝ }
 {
     match manifest::shape::read(m) {

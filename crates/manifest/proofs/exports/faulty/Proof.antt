@@ -16,7 +16,6 @@ slice-aggregate-same-bytes c = search needs
 same-bytes-requires : tie.Need-same-bytes-requires
 same-bytes-requires c κs = search needs
 
--- /tmp/h/manifest/target/rlib/sizes.rlib/interface/lang/src/lib.rt:9:25
 enum-told-2 : tie.Need-enum-told-2
 enum-told-2 c = search needs
 
