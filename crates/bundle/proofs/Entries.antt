@@ -1,6 +1,6 @@
 -- Laws of the entries from a position on: what the first of them adds to a question about all of them.
 use Prim.Native.Nat.{ℕ, zero, suc, _+_, _-_, _≤_, _<_}
-use mathlib.Core.Path.{_≡_, refl, sym, _∙_}
+use mathlib.Core.Path.{_≡_, refl, sym}
 use mathlib.Core.List.{List, [], _∷_}
 use mathlib.Core.Bool.{Bool, true, false, not}
 use native.Mathlib.Omega.{arith}
@@ -25,13 +25,13 @@ outside-test s start n = elim (decLe (start + n) (length s)) [
 ]
 
 module _ (file : List ℕ) where
-  pub entries-more : (n p : ℕ) → 0 < n → {e : Entry} → e ≡ entryAt file p →
+  entries-more : (n p : ℕ) → 0 < n → {e : Entry} → e ≡ entryAt file p →
       entriesFrom file n p ≡ e ∷ entriesFrom file (n - 1) (p + entryBytes)
   unfolding entriesFrom
   entries-more zero p h g = absurd (omega arith)
   entries-more (suc n) p h g = let m : suc n - 1 ≡ n = omega arith in rw (m, g)
 
-  pub entries-end : (n p : ℕ) → n ≤ 0 → entriesFrom file n p ≡ []
+  entries-end : (n p : ℕ) → n ≤ 0 → entriesFrom file n p ≡ []
   unfolding entriesFrom
   entries-end zero p h = refl
   entries-end (suc n) p h = absurd (omega arith)

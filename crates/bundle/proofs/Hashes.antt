@@ -1,5 +1,5 @@
--- Laws of the hashes that a manifest's references name: what the first of them adds to the question whether one is lost, and that they
--- are the hashes of the roots and of the exports.
+-- Laws of the hashes that a manifest's references name: what the first of them adds to the question whether one is lost, and
+-- that they are the hashes of the roots and of the exports.
 use Prim.Native.Nat.{ℕ, zero, suc, _+_, _-_, _≤_, _<_}
 use mathlib.Core.Path.{_≡_, refl, ap, _∙_}
 use mathlib.Core.List.{List, [], _∷_}
@@ -11,14 +11,15 @@ use Rattle.wire.specs.Wire.{numberAt, onNumber, indexOf, found}
 use Rattle.manifest.specs.declared.parts.Parsed.{Parsed}
 use Rattle.manifest.specs.declared.parts.Parsed.the-variants.{To, Bad}
 use Rattle.manifest.specs.Shape.{onParsed, rootEnd, exportEnd}
-use Rattle.manifest.specs.Content.{Root as RootRecord, Export as ExportRecord, rootAt, exportAt, listFrom, rootsAt, exportsAt}
+use Rattle.manifest.specs.Content.{Root as RootRecord, Export as ExportRecord}
+use Rattle.manifest.specs.Content.{rootAt, exportAt, listFrom, rootsAt, exportsAt}
 use Rattle.manifest.proofs.Lists.{list-step, list-stop, list-none}
 use Rattle.nodes.specs.Records.{count, records, nodesOf, hashes, lacks}
 use Rattle.bundle.specs.declared.references.Reference.{Reference}
 use Rattle.bundle.specs.declared.references.Reference.the-variants.{Root, Export}
 use Rattle.bundle.specs.References.{rootHashes, exportHashes, referenceEnd, referenceHash, hashesFrom, hashesAt}
 
--- a loop's turn at the n references from p on; x, t and b stand for the results of the calls, and k for the number of records
+-- a loop's turn at the n references from p on; x, t and b stand for the results of the calls, k for the number of records
 module _ (m s : List ℕ) (kind : Reference) (n p : ℕ) (h : 0 < n) {x : Parsed} (e : x ≡ referenceEnd m kind p) where
   module _ {q : ℕ} (r : x ≡ To q) {k : ℕ} (c : k ≡ count s) {t : List ℕ} (g : t ≡ referenceHash m kind p)
       {b : Bool} (f : b ≡ found (indexOf t 0 (hashes (records s k 8)))) where

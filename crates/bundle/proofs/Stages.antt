@@ -1,5 +1,5 @@
--- The checks are made in stages, each a table: a refusal by an earlier stage stands, and a later stage answers where no row of an earlier
--- one holds. And what a stage that answers 0 gives to the next.
+-- The checks are made in stages, each a table: a refusal by an earlier stage stands, and a later stage answers where no row of
+-- an earlier one holds. And what a stage that answers 0 gives to the next.
 use Prim.Native.Nat.{ℕ, _+_, _*_, _≤_}
 use mathlib.Core.Path.{_≡_, refl, sym, _∙_}
 use mathlib.Core.List.{List, [], _∷_, _++_}
@@ -8,9 +8,9 @@ use native.Mathlib.Omega.{arith}
 use lib.ListN.{length}
 use Rattle.bundle.specs.Header.{headerBytes, entryBytes, sectionCount}
 use Rattle.bundle.specs.Directory.{manifestSection, nodesSection}
-use Rattle.bundle.specs.Checks.{Check, firstOf, headerChecks, directoryChecks, manifestChecks, nodeChecks, nameChecks, checks}
-use Rattle.bundle.specs.Checks.{nameRefusal, refusal}
-use Rattle.bundle.proofs.Rows.{Ascends, Clear, first-clear, clear-parts}
+use Rattle.bundle.specs.Checks.{Check, firstOf, headerChecks, directoryChecks, manifestChecks, nodeChecks}
+use Rattle.bundle.specs.Checks.{nameChecks, checks, nameRefusal, refusal}
+use Rattle.bundle.proofs.Rows.{Clear, first-clear, clear-parts}
 use Rattle.bundle.proofs.HeaderLaws.{directory-exactly}
 
 -- two tables, one behind the other; k stands for the answer of the first

@@ -14,6 +14,9 @@ pub const MANIFEST: u64 = 1;
 
 pub const NODES: u64 = 2;
 
+// Bytes of a digest.
+const DIGEST: usize = 32;
+
 // What a directory entry says; the digest by its place.
 pub struct Entry {
     pub kind: u64,
@@ -94,7 +97,7 @@ fn altered(file: &[u8], e: Entry) -> bool
 {
     if known(e.kind) {
         let digest = sha256::digest(wire::span(file, e.offset as usize, e.size as usize));
-        return !wire::same_bytes(&digest, wire::span(file, e.digest, 32));
+        return !wire::same_bytes(&digest[0..DIGEST], wire::span(file, e.digest, DIGEST));
     }
     false
 }

@@ -16,7 +16,8 @@ check-directory-requires c κs = header-inside _ (c .before .check-header .ensur
 returns-2 : tie.Need-returns-2
 returns-2 c =
     let fine = c .before .before in
-    by-directory _ (fine .before .check-header .ensures) (fine .if1 .left) (c .before .check-directory .ensures) (c .if2 .taken)
+    by-directory _ (fine .before .check-header .ensures) (fine .if1 .left) (c .before .check-directory .ensures)
+    (c .if2 .taken)
 
 section-requires : tie.Need-section-requires
 section-requires c κs = header-inside _ (c .before .before .before .check-header .ensures) (c .before .before .if1 .left)

@@ -1,6 +1,9 @@
--- The digest is compared where the type is known.
+-- The digest is compared, all of it, where the type is known.
+use Prim.Native.Nat.{_≤_}
 use mathlib.Core.Path.{sym, _∙_}
 use borrow.Author.Needs.{needs}
+use lib.ListN.{length}
+use lib.Seq.{take-all}
 use Rattle.bundle.specs.Directory.{faulty}
 use Rattle.bundle.proofs.directory.altered.Statement.{statement}
 use Rattle.bundle.proofs.directory.altered.Tie as tie
@@ -14,8 +17,14 @@ span-requires c κs = search needs
 digest-requires : tie.Need-digest-requires
 digest-requires c κs = search needs
 
-slice-aggregate-same-bytes : tie.Need-slice-aggregate-same-bytes
-slice-aggregate-same-bytes c = search needs
+sub-same-bytes : tie.Need-sub-same-bytes
+sub-same-bytes c = search needs
+
+part-same-bytes-start : tie.Need-part-same-bytes-start
+part-same-bytes-start c = search needs
+
+part-same-bytes-end : tie.Need-part-same-bytes-end
+part-same-bytes-end c = search needs
 
 span-requires-2 : tie.Need-span-requires-2
 span-requires-2 c κs = search needs
@@ -26,13 +35,16 @@ same-bytes-requires c κs = search needs
 returns : tie.Need-returns
 unfolding faulty
 returns c =
-    let section = c .before .before .before in
+    let hashed = c .before .before .before .before in
+    let tested = hashed .before .before in
+    let whole : length (hashed .digest .result) ≤ 32 = search needs in
     rw (
-      sym (section .before .before .before .known .ensures) ∙ section .before .before .if1 .taken,
-      ← section .before .span .ensures,
-      ← section .digest .ensures,
+      sym (tested .before .known .ensures) ∙ tested .if1 .taken,
+      ← hashed .before .span .ensures,
+      ← hashed .digest .ensures,
       ← c .before .span2 .ensures,
-      ← c .same-bytes .ensures,
+      c .same-bytes .ensures,
+      take-all 32 (hashed .digest .result) whole,
     )
 
 returns-2 : tie.Need-returns-2
@@ -46,7 +58,9 @@ altered-spec =
     known-requires
     span-requires
     digest-requires
-    slice-aggregate-same-bytes
+    sub-same-bytes
+    part-same-bytes-start
+    part-same-bytes-end
     span-requires-2
     same-bytes-requires
     returns

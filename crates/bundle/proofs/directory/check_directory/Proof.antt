@@ -17,7 +17,8 @@ unfolding firstOf directoryChecks entries
 returns c =
     rw (
       ← c .before .before .section-count .ensures,
-      sym (c .before .some-faulty .ensures) ∙ c .if1 .taken,
+      ← c .before .some-faulty .ensures,
+      c .if1 .taken,
     )
 
 some-faulty-requires-2 : tie.Need-some-faulty-requires-2
@@ -29,8 +30,10 @@ returns-2 c =
     let at1 = c .before .before in
     rw (
       ← at1 .before .before .section-count .ensures,
-      sym (at1 .before .some-faulty .ensures) ∙ at1 .if1 .left,
-      sym (c .before .some-faulty2 .ensures) ∙ c .if2 .taken,
+      ← at1 .before .some-faulty .ensures,
+      at1 .if1 .left,
+      ← c .before .some-faulty2 .ensures,
+      c .if2 .taken,
     )
 
 some-faulty-requires-3 : tie.Need-some-faulty-requires-3
@@ -43,9 +46,12 @@ returns-3 c =
     let at1 = at2 .before .before in
     rw (
       ← at1 .before .before .section-count .ensures,
-      sym (at1 .before .some-faulty .ensures) ∙ at1 .if1 .left,
-      sym (at2 .before .some-faulty2 .ensures) ∙ at2 .if2 .left,
-      sym (c .before .some-faulty3 .ensures) ∙ c .if3 .taken,
+      ← at1 .before .some-faulty .ensures,
+      at1 .if1 .left,
+      ← at2 .before .some-faulty2 .ensures,
+      at2 .if2 .left,
+      ← c .before .some-faulty3 .ensures,
+      c .if3 .taken,
     )
 
 repeated-requires : tie.Need-repeated-requires
@@ -59,10 +65,14 @@ returns-4 c =
     let at1 = at2 .before .before in
     rw (
       ← at1 .before .before .section-count .ensures,
-      sym (at1 .before .some-faulty .ensures) ∙ at1 .if1 .left,
-      sym (at2 .before .some-faulty2 .ensures) ∙ at2 .if2 .left,
-      sym (at3 .before .some-faulty3 .ensures) ∙ at3 .if3 .left,
-      sym (c .before .repeated .ensures) ∙ c .if4 .taken,
+      ← at1 .before .some-faulty .ensures,
+      at1 .if1 .left,
+      ← at2 .before .some-faulty2 .ensures,
+      at2 .if2 .left,
+      ← at3 .before .some-faulty3 .ensures,
+      at3 .if3 .left,
+      ← c .before .repeated .ensures,
+      c .if4 .taken,
     )
 
 missing-requires : tie.Need-missing-requires
@@ -77,11 +87,16 @@ returns-5 c =
     let at1 = at2 .before .before in
     rw (
       ← at1 .before .before .section-count .ensures,
-      sym (at1 .before .some-faulty .ensures) ∙ at1 .if1 .left,
-      sym (at2 .before .some-faulty2 .ensures) ∙ at2 .if2 .left,
-      sym (at3 .before .some-faulty3 .ensures) ∙ at3 .if3 .left,
-      sym (at4 .before .repeated .ensures) ∙ at4 .if4 .left,
-      sym (c .before .missing .ensures) ∙ c .if5 .taken,
+      ← at1 .before .some-faulty .ensures,
+      at1 .if1 .left,
+      ← at2 .before .some-faulty2 .ensures,
+      at2 .if2 .left,
+      ← at3 .before .some-faulty3 .ensures,
+      at3 .if3 .left,
+      ← at4 .before .repeated .ensures,
+      at4 .if4 .left,
+      ← c .before .missing .ensures,
+      c .if5 .taken,
     )
 
 some-faulty-requires-4 : tie.Need-some-faulty-requires-4
@@ -97,12 +112,18 @@ returns-6 c =
     let at1 = at2 .before .before in
     rw (
       ← at1 .before .before .section-count .ensures,
-      sym (at1 .before .some-faulty .ensures) ∙ at1 .if1 .left,
-      sym (at2 .before .some-faulty2 .ensures) ∙ at2 .if2 .left,
-      sym (at3 .before .some-faulty3 .ensures) ∙ at3 .if3 .left,
-      sym (at4 .before .repeated .ensures) ∙ at4 .if4 .left,
-      sym (at5 .before .missing .ensures) ∙ at5 .if5 .left,
-      sym (c .before .some-faulty4 .ensures) ∙ c .if6 .taken,
+      ← at1 .before .some-faulty .ensures,
+      at1 .if1 .left,
+      ← at2 .before .some-faulty2 .ensures,
+      at2 .if2 .left,
+      ← at3 .before .some-faulty3 .ensures,
+      at3 .if3 .left,
+      ← at4 .before .repeated .ensures,
+      at4 .if4 .left,
+      ← at5 .before .missing .ensures,
+      at5 .if5 .left,
+      ← c .before .some-faulty4 .ensures,
+      c .if6 .taken,
     )
 
 returns-7 : tie.Need-returns-7
@@ -115,12 +136,18 @@ returns-7 c =
     let at1 = at2 .before .before in
     rw (
       ← at1 .before .before .section-count .ensures,
-      sym (at1 .before .some-faulty .ensures) ∙ at1 .if1 .left,
-      sym (at2 .before .some-faulty2 .ensures) ∙ at2 .if2 .left,
-      sym (at3 .before .some-faulty3 .ensures) ∙ at3 .if3 .left,
-      sym (at4 .before .repeated .ensures) ∙ at4 .if4 .left,
-      sym (at5 .before .missing .ensures) ∙ at5 .if5 .left,
-      sym (c .before .some-faulty4 .ensures) ∙ c .if6 .left,
+      ← at1 .before .some-faulty .ensures,
+      at1 .if1 .left,
+      ← at2 .before .some-faulty2 .ensures,
+      at2 .if2 .left,
+      ← at3 .before .some-faulty3 .ensures,
+      at3 .if3 .left,
+      ← at4 .before .repeated .ensures,
+      at4 .if4 .left,
+      ← at5 .before .missing .ensures,
+      at5 .if5 .left,
+      ← c .before .some-faulty4 .ensures,
+      c .if6 .left,
     )
 
 pub check-directory-spec : {M : Type 1} → statement M
