@@ -49,13 +49,27 @@ sectionOf file e = span file (e .offset) (e .size)
 abbrev pub digestOf : List ℕ → Entry → List ℕ
 digestOf file e = span file (e .digest) 32
 
--- an entry of unknown type is critical (6): flag bit 0; it has compression not 0 or digest algorithm not 1 (7); its offset plus length,
--- as whole numbers, passes the end of file (8); the digest of a type 1 or type 2 section differs (11)
+-- 6: an entry of unknown type is critical: flag bit 0
+unfoldable pub critical : Entry → Bool
+critical e = cond (known (e .kind)) false (eqb (e .flags % 2) 1)
+
+-- 7: an entry has compression not 0 or digest algorithm not 1
+unfoldable pub coded : Entry → Bool
+coded e = anyOf (not (eqb (e .compression) 0) ∷ not (eqb (e .algorithm) 1) ∷ [])
+
+-- 8: an entry's offset plus length, as whole numbers, passes the end of file
+unfoldable pub outside : List ℕ → Entry → Bool
+outside file e = ltb (length file) (e .offset + e .size)
+
+-- 11: the digest of the type 1 or type 2 section differs
+unfoldable pub altered : List ℕ → Entry → Bool
+altered file e = cond (known (e .kind)) (not (sameBytes (sha256 (sectionOf file e)) (digestOf file e))) false
+
 unfoldable pub faulty : List ℕ → Fault → Entry → Bool
-faulty file Critical e = cond (known (e .kind)) false (eqb (e .flags % 2) 1)
-faulty file Coded e = anyOf (not (eqb (e .compression) 0) ∷ not (eqb (e .algorithm) 1) ∷ [])
-faulty file Outside e = ltb (length file) (e .offset + e .size)
-faulty file Altered e = cond (known (e .kind)) (not (sameBytes (sha256 (sectionOf file e)) (digestOf file e))) false
+faulty file Critical e = critical e
+faulty file Coded e = coded e
+faulty file Outside e = outside file e
+faulty file Altered e = altered file e
 
 -- some entry has the fault
 unfoldable pub someFaulty : List ℕ → Fault → List Entry → Bool

@@ -3,7 +3,7 @@ ghost use mathlib.Core.Path.{_≡_};
 ghost use Prim.Native.Nat.{_+_, _*_, _≤_};
 ghost use lib.ListN.{length};
 ghost use Rattle.bundle.specs.Header.{headerBytes, entryBytes, sectionCount};
-ghost use Rattle.bundle.specs.Directory.{entryAt, entriesFrom, known, faulty, someFaulty, occurrences, repeated, missing, sectionIn, section};
+ghost use Rattle.bundle.specs.Directory.{entryAt, entriesFrom, known, critical, coded, outside, altered, faulty, someFaulty, occurrences, repeated, missing, sectionIn, section};
 ghost use Rattle.bundle.specs.Checks.{firstOf, directoryChecks};
 use crate::header::ENTRY;
 use crate::header::HEADER;
@@ -65,8 +65,8 @@ fn known(kind: u64) -> bool
 }
 
 // 6, of one entry.
-fn critical(file: &[u8], e: Entry) -> bool
-    ensures { λ r. ⌜ r ≡ faulty (now (file .entry)) Fault.Critical e ⌝ }
+fn critical(e: Entry) -> bool
+    ensures { λ r. ⌜ r ≡ critical e ⌝ }
 {
     if known(e.kind) {
         return false;
@@ -75,8 +75,8 @@ fn critical(file: &[u8], e: Entry) -> bool
 }
 
 // 7, of one entry.
-fn coded(file: &[u8], e: Entry) -> bool
-    ensures { λ r. ⌜ r ≡ faulty (now (file .entry)) Fault.Coded e ⌝ }
+fn coded(e: Entry) -> bool
+    ensures { λ r. ⌜ r ≡ coded e ⌝ }
 {
     if e.compression != 0 {
         return true;
@@ -86,14 +86,14 @@ fn coded(file: &[u8], e: Entry) -> bool
 
 // 8, of one entry. Offset and length are not added: the test is by subtraction.
 fn outside(file: &[u8], e: Entry) -> bool
-    ensures { λ r. ⌜ r ≡ faulty (now (file .entry)) Fault.Outside e ⌝ }
+    ensures { λ r. ⌜ r ≡ outside (now (file .entry)) e ⌝ }
 {
     !wire::inside(file, e.offset as usize, e.size as usize)
 }
 
 // 11, of one entry.
 fn altered(file: &[u8], e: Entry) -> bool
-    ensures { λ r. ⌜ r ≡ faulty (now (file .entry)) Fault.Altered e ⌝ }
+    ensures { λ r. ⌜ r ≡ altered (now (file .entry)) e ⌝ }
 {
     if known(e.kind) {
         let digest = sha256::digest(wire::span(file, e.offset as usize, e.size as usize));
@@ -106,8 +106,8 @@ fn faulty(file: &[u8], fault: Fault, e: Entry) -> bool
     ensures { λ r. ⌜ r ≡ faulty (now (file .entry)) fault e ⌝ }
 {
     match fault {
-        Fault::Critical => critical(file, e),
-        Fault::Coded => coded(file, e),
+        Fault::Critical => critical(e),
+        Fault::Coded => coded(e),
         Fault::Outside => outside(file, e),
         Fault::Altered => altered(file, e),
     }

@@ -17,20 +17,21 @@ use Rattle.bundle.specs.declared.directory.Entry.{Entry}
 use Rattle.bundle.specs.declared.directory.Fault.{Fault}
 use Rattle.bundle.specs.declared.directory.Fault.the-variants.{Critical, Coded, Outside, Altered}
 use Rattle.bundle.specs.Directory.{entries, manifestKind, nodesKind, known, sectionOf, digestOf, faulty, someFaulty}
+use Rattle.bundle.specs.Directory.{critical, coded, outside, altered}
 use Rattle.bundle.specs.Directory.{occurrences, repeated, missing}
 use Rattle.soundness.specs.Sound.{SoundEntry}
 
 module _ (file : List ℕ) where
   -- one entry does not have a fault
   optional-exactly : (e : Entry) → (faulty file Critical e ≡ false) ↔ (known (e .kind) ≡ false → e .flags % 2 ≡ 0)
-  unfolding faulty
+  unfolding faulty critical
   optional-exactly e =
       let even : (eqb (e .flags % 2) 1 ≡ false) ↔ (e .flags % 2 ≡ 0) =
       (λ q. omega (arith, eqb-false (e .flags % 2) 1 q), λ z. ne-eqb (e .flags % 2) 1 (omega arith)) in
       unless-exactly _ even (known (e .kind))
 
   plain-exactly : (e : Entry) → (faulty file Coded e ≡ false) ↔ ((e .compression ≡ 0) × (e .algorithm ≡ 1))
-  unfolding faulty
+  unfolding faulty coded
   plain-exactly e =
       let tests =
       any-more _ (not-exactly _ (equal-exactly (e .compression) 0))
@@ -38,12 +39,12 @@ module _ (file : List ℕ) where
       (λ q. let (c, (a, _)) = tests .0 q in (c, a), λ h. tests .1 (h .0, (h .1, tt)))
 
   inside-exactly : (e : Entry) → (faulty file Outside e ≡ false) ↔ (e .offset + e .size ≤ length file)
-  unfolding faulty
+  unfolding faulty outside
   inside-exactly e = below-exactly (length file) (e .offset + e .size)
 
   digest-exactly : (e : Entry) →
       (faulty file Altered e ≡ false) ↔ (known (e .kind) ≡ true → sha256 (sectionOf file e) ≡ digestOf file e)
-  unfolding faulty
+  unfolding faulty altered
   digest-exactly e =
       where-exactly _ (not-exactly _ (same-exactly (sha256 (sectionOf file e)) (digestOf file e))) (known (e .kind))
 

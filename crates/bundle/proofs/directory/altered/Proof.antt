@@ -4,7 +4,7 @@ use mathlib.Core.Path.{sym, _∙_}
 use borrow.Author.Needs.{needs}
 use lib.ListN.{length}
 use lib.Seq.{take-all}
-use Rattle.bundle.specs.Directory.{faulty}
+use Rattle.bundle.specs.Directory.{altered}
 use Rattle.bundle.proofs.directory.altered.Statement.{statement}
 use Rattle.bundle.proofs.directory.altered.Tie as tie
 
@@ -33,7 +33,7 @@ same-bytes-requires : tie.Need-same-bytes-requires
 same-bytes-requires c κs = search needs
 
 returns : tie.Need-returns
-unfolding faulty
+unfolding altered
 returns c =
     let hashed = c .before .before .before .before in
     let tested = hashed .before .before in
@@ -48,7 +48,7 @@ returns c =
     )
 
 returns-2 : tie.Need-returns-2
-unfolding faulty
+unfolding altered
 returns-2 c = rw (sym (c .before .known .ensures) ∙ c .if1 .left)
 
 pub altered-spec : {M : Type 1} → statement M

@@ -2,16 +2,16 @@
 use borrow.Author.Tests.{eq-eqb, ne-eqb}
 use Rattle.wire.specs.Wire.{anyOf}
 use Rattle.manifest.proofs.Choices.{cond-test}
-use Rattle.bundle.specs.Directory.{faulty}
+use Rattle.bundle.specs.Directory.{coded}
 use Rattle.bundle.proofs.directory.coded.Statement.{statement}
 use Rattle.bundle.proofs.directory.coded.Tie as tie
 
 returns : tie.Need-returns
-unfolding faulty anyOf
+unfolding coded anyOf
 returns c = rw (ne-eqb _ _ (c .if1 .taken))
 
 returns-2 : tie.Need-returns-2
-unfolding faulty anyOf
+unfolding coded anyOf
 returns-2 c = rw (eq-eqb _ _ (c .before .if1 .left), cond-test)
 
 pub coded-spec : {M : Type 1} → statement M

@@ -1,7 +1,7 @@
 -- The flag is looked at where the type is unknown.
 use mathlib.Core.Path.{sym, _∙_}
 use borrow.Author.Needs.{needs}
-use Rattle.bundle.specs.Directory.{faulty}
+use Rattle.bundle.specs.Directory.{critical}
 use Rattle.bundle.proofs.directory.critical.Statement.{statement}
 use Rattle.bundle.proofs.directory.critical.Tie as tie
 
@@ -9,11 +9,11 @@ known-requires : tie.Need-known-requires
 known-requires c κs = search needs
 
 returns : tie.Need-returns
-unfolding faulty
+unfolding critical
 returns c = rw (sym (c .before .known .ensures) ∙ c .if1 .taken)
 
 returns-2 : tie.Need-returns-2
-unfolding faulty
+unfolding critical
 returns-2 c = rw (sym (c .before .before .known .ensures) ∙ c .before .if1 .left)
 
 pub critical-spec : {M : Type 1} → statement M

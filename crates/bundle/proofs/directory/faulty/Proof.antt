@@ -1,5 +1,6 @@
 -- Each fault by its function.
 use borrow.Author.Needs.{needs}
+use Rattle.bundle.specs.Directory.{faulty}
 use Rattle.bundle.proofs.directory.faulty.Statement.{statement}
 use Rattle.bundle.proofs.directory.faulty.Tie as tie
 
@@ -28,15 +29,19 @@ altered-requires : tie.Need-altered-requires
 altered-requires c κs = search needs
 
 returns : tie.Need-returns
+unfolding faulty
 returns c = rw (c .before .enum-told .given .1) (c .critical .ensures)
 
 returns-2 : tie.Need-returns-2
+unfolding faulty
 returns-2 c = rw (c .before .enum-told2 .given .1) (c .coded .ensures)
 
 returns-3 : tie.Need-returns-3
+unfolding faulty
 returns-3 c = rw (c .before .enum-told3 .given .1) (c .outside .ensures)
 
 returns-4 : tie.Need-returns-4
+unfolding faulty
 returns-4 c = rw (c .before .enum-told4 .given .1) (c .altered .ensures)
 
 pub faulty-spec : {M : Type 1} → statement M

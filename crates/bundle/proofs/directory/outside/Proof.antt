@@ -1,6 +1,6 @@
 -- What is not inside passes the end.
 use borrow.Author.Needs.{needs}
-use Rattle.bundle.specs.Directory.{faulty}
+use Rattle.bundle.specs.Directory.{outside}
 use Rattle.bundle.proofs.Entries.{outside-test}
 use Rattle.bundle.proofs.directory.outside.Statement.{statement}
 use Rattle.bundle.proofs.directory.outside.Tie as tie
@@ -9,7 +9,7 @@ inside-requires : tie.Need-inside-requires
 inside-requires c κs = search needs
 
 returns : tie.Need-returns
-unfolding faulty
+unfolding outside
 returns c = rw (c .inside .ensures) (outside-test _ _ _)
 
 pub outside-spec : {M : Type 1} → statement M
