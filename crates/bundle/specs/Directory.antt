@@ -1,5 +1,5 @@
--- The directory: entries of 60 bytes, each u32 type; u16 version; u16 flags; u16 compression; u16 digest algorithm; u64 offset from the
--- start of the file; u64 length; 32-byte SHA-256 of the section. Version isn't judged.
+-- The directory: entries of 60 bytes, each u32 type; u16 version; u16 flags; u16 compression; u16 digest algorithm; u64 offset
+-- from the start of the file; u64 length; 32-byte SHA-256 of the section. Version isn't judged.
 use Prim.Native.Nat.{ℕ, zero, suc, _+_, _%_}
 use mathlib.Core.List.{List, [], _∷_}
 use mathlib.Core.Bool.{Bool, true, false, not, cond}

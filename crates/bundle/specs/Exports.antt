@@ -11,7 +11,8 @@ use Rattle.bundle.specs.declared.exports.IndexAnswer.the-variants.{Refus
 use Rattle.bundle.specs.Directory.{manifestSection}
 use Rattle.bundle.specs.Checks.{nameRefusal}
 
--- export name by index: the part of the file that is the name, or the empty part if any of 1 to 14 holds or there is no such index
+-- export name by index: the part of the file that is the name, or the empty part if any of 1 to 14 holds or there is no such
+-- index
 unfoldable pub nameCall : List ℕ → ℕ → List ℕ
 nameCall file i = cond (eqb (nameRefusal file) 0) (exportName (manifestSection file) i) []
 

@@ -1,5 +1,5 @@
--- The header, 32 bytes: the eight bytes ARBORICX; u16 major, u16 minor; u32 section count; u64 flags; u64 directory offset. Minor and
--- flags aren't judged.
+-- The header, 32 bytes: the eight bytes ARBORICX; u16 major, u16 minor; u32 section count; u64 flags; u64 directory offset.
+-- Minor and flags aren't judged.
 use Prim.Native.Nat.{ℕ, _+_, _*_}
 use mathlib.Core.List.{List, [], _∷_}
 use mathlib.Core.Bool.{Bool, not}

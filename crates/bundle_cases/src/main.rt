@@ -1,5 +1,5 @@
-// Checks each bundle of a folder whose name the input has, and writes the number that is answered, the names of its exports, and
-// what the index by name answers of three names.
+// Checks each bundle of a folder whose name the input has, and writes the number that is answered, the names of its exports,
+// and what the index by name answers of three names.
 ghost use Prim.Native.Nat.{_≤_};
 ghost use lib.ListN.{length};
 use bundle::exports::IndexAnswer;

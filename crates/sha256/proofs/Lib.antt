@@ -9,4 +9,3 @@ pub mod Padding
 pub mod Finishing
 pub mod Clients
 pub mod Constants
-pub mod Examples

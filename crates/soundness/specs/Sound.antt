@@ -1,4 +1,5 @@
--- What an accepted file is, in plain facts: sizes, digests, the manifest and the nodes that its sections are, and how they hang together.
+-- What an accepted file is, in plain facts: sizes, digests, the manifest and the nodes that its sections are, and how they
+-- hang together.
 use Prim.Native.Nat.{ℕ, _+_, _*_, _%_, _≤_}
 use mathlib.Core.Path.{_≡_}
 use mathlib.Core.Bool.{true, false}
@@ -19,8 +20,8 @@ use Rattle.bundle.specs.declared.directory.Entry.{Entry}
 use Rattle.bundle.specs.Header.{headerBytes, entryBytes, sectionCount, directoryOffset}
 use Rattle.bundle.specs.Directory.{entries, manifestKind, nodesKind, known, sectionOf, digestOf, occurrences, manifestSection, nodesSection}
 
--- a sound entry: an unknown type is not critical, nothing is compressed, the digest is SHA-256, the section lies in the file, and where
--- the type is known the digest is the section's
+-- a sound entry: an unknown type is not critical, nothing is compressed, the digest is SHA-256, the section lies in the file,
+-- and where the type is known the digest is the section's
 pub record SoundEntry (file : List ℕ) (e : Entry) : Type 0 where
   pub optional : known (e .kind) ≡ false → e .flags % 2 ≡ 0
   pub compression : e .compression ≡ 0
