@@ -8,9 +8,9 @@ use native.Mathlib.Omega.{arith}
 use Rattle.wire.specs.declared.Num.{Num}
 use Rattle.wire.specs.declared.Num.the-variants.{Value, Short}
 use Rattle.wire.specs.Wire.{numberAt, onNumber, indexOf, found}
-use Rattle.manifest.specs.declared.parts.Parsed.{Parsed}
-use Rattle.manifest.specs.declared.parts.Parsed.the-variants.{To, Bad}
-use Rattle.manifest.specs.Shape.{onParsed, rootEnd, exportEnd}
+use Rattle.manifest_shape.specs.declared.parts.Parsed.{Parsed}
+use Rattle.manifest_shape.specs.declared.parts.Parsed.the-variants.{To, Bad}
+use Rattle.manifest_shape.specs.Shape.{onParsed, rootEnd, exportEnd}
 use Rattle.manifest.specs.Content.{Root as RootRecord, Export as ExportRecord}
 use Rattle.manifest.specs.Content.{rootAt, exportAt, listFrom, rootsAt, exportsAt}
 use Rattle.manifest.proofs.Lists.{list-step, list-stop, list-none}

@@ -6,7 +6,7 @@ use mathlib.Core.Bool.{Bool, true, false, not, cond}
 use lib.ListN.{length}
 use lib.Dec.{ltb, eqb}
 use Rattle.wire.specs.Wire.{numberAt, span, sameBytes, orZero, anyOf, someOf}
-use Rattle.sha256.specs.Fips180.{sha256}
+use Rattle.sha256_block.specs.Fips180.{sha256}
 use Rattle.bundle.specs.declared.directory.Entry.{Entry}
 use Rattle.bundle.specs.declared.directory.Fault.{Fault}
 use Rattle.bundle.specs.declared.directory.Fault.the-variants.{Critical, Coded, Outside, Altered}

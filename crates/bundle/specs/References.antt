@@ -3,9 +3,9 @@ use Prim.Native.Nat.{ℕ, _+_}
 use mathlib.Core.List.{List, [], _∷_}
 use mathlib.Core.Bool.{Bool}
 use Rattle.wire.specs.Wire.{numberAt, onNumber, anyOf}
-use Rattle.manifest.specs.declared.parts.Parsed.{Parsed}
-use Rattle.manifest.specs.declared.parts.Parsed.the-variants.{To}
-use Rattle.manifest.specs.Shape.{stringEnd, rootEnd, exportEnd}
+use Rattle.manifest_shape.specs.declared.parts.Parsed.{Parsed}
+use Rattle.manifest_shape.specs.declared.parts.Parsed.the-variants.{To}
+use Rattle.manifest_shape.specs.Shape.{stringEnd, rootEnd, exportEnd}
 use Rattle.manifest.specs.Content.{Root as RootRecord, Export as ExportRecord, hashAt, listFrom}
 use Rattle.manifest.specs.Judged.{rootsOf, exportsOf}
 use Rattle.nodes.specs.Records.{lacks, nodesOf}

@@ -7,7 +7,7 @@ use crate::directory::check_directory;
 use crate::directory::section;
 use crate::header::check_header;
 use crate::references::unresolved;
-use manifest::shape::Manifest;
+use manifest_shape::Manifest;
 use nodes::faults::Fault;
 
 pub mod directory;
@@ -19,7 +19,7 @@ mod references;
 fn check_manifest(m: &[u8]) -> u32
     ensures { λ r. ⌜ r ≡ firstOf (manifestChecks (now (m .entry))) ⌝ }
 {
-    match manifest::shape::read(m) {
+    match manifest_shape::read(m) {
         Manifest::Shape(l) => {
             if manifest::unsupported(m, l) {
                 return 13;

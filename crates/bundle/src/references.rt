@@ -3,11 +3,11 @@ ghost use mathlib.Core.Path.{_≡_};
 ghost use Rattle.nodes.specs.Records.{lacks, nodesOf};
 ghost use Rattle.bundle.specs.References.{referenceEnd, referenceHash, hashesFrom, hashesAt, unresolved};
 use manifest::content::hash_at;
-use manifest::parts::Parsed;
-use manifest::parts::export_end;
-use manifest::parts::root_end;
-use manifest::parts::string_end;
-use manifest::shape::Manifest;
+use manifest_shape::Manifest;
+use manifest_shape::parts::Parsed;
+use manifest_shape::parts::export_end;
+use manifest_shape::parts::root_end;
+use manifest_shape::parts::string_end;
 use wire::Num;
 
 // What names a hash.
@@ -74,7 +74,7 @@ fn lost(m: &[u8], kind: Reference, at: usize, s: &[u8]) -> bool
 pub(crate) fn unresolved(m: &[u8], s: &[u8]) -> bool
     ensures { λ r. ⌜ r ≡ unresolved (now (m .entry)) (now (s .entry)) ⌝ }
 {
-    match manifest::shape::read(m) {
+    match manifest_shape::read(m) {
         Manifest::Shape(l) => {
             let roots = l.roots;
             let exports = l.exports;

@@ -6,10 +6,10 @@ use lib.ListN.{getD}
 use Rattle.wire.specs.Wire.{bigEndian, inside, spanEnd, span, numberAt, sameBytes, holdsAt, indexOf, anyOf, someOf}
 use Rattle.sizes.specs.Sizes.{within}
 use Rattle.utf8.specs.Check.{utf8-char, within as inRange, start, step, atEnd, checkFrom, check}
-use Rattle.sha256.specs.Fips180.{K, H0, tabulate, lengthBytes, padding, padded, nextWord, schedule, round, rounds, combined}
-use Rattle.sha256.specs.Fips180.{compress, hash, bytesOf, sha256}
-use Rattle.manifest.specs.Shape.{bytesEnd, textEnd, stringEnd, rootEnd, exportEnd, sizedEnd, fieldEnd, itemEnd, itemsEnd}
-use Rattle.manifest.specs.Shape.{countedEnd, closureEnd, headEnd, ending, manifestOf}
+use Rattle.sha256_block.specs.Fips180.{K, H0, tabulate, lengthBytes, padding, padded, nextWord, schedule, round, rounds, combined}
+use Rattle.sha256_block.specs.Fips180.{compress, hash, bytesOf, sha256}
+use Rattle.manifest_shape.specs.Shape.{bytesEnd, textEnd, stringEnd, rootEnd, exportEnd, sizedEnd, fieldEnd, itemEnd, itemsEnd}
+use Rattle.manifest_shape.specs.Shape.{countedEnd, closureEnd, headEnd, ending, manifestOf}
 use Rattle.manifest.specs.Content.{textAt, hashAt, listFrom, countAt, rootsAt, exportsAt, names}
 use Rattle.manifest.specs.Judged.{nineStrings, past, pastAll, stringsAgree, faulty as exportFaulty, someFaulty as someExport}
 use Rattle.manifest.specs.Judged.{malformed, unsupportedAt, unsupported, misnamedAt, misnamed, rootsOf, exportsOf}

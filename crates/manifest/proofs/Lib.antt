@@ -1,4 +1,2 @@
-pub mod Choices
-pub mod Items
 pub mod Lists
 pub mod ExportLists

@@ -4,8 +4,8 @@ use mathlib.Core.Path.{_≡_, refl}
 use mathlib.Core.List.{[], _∷_}
 use native.Mathlib.Omega.{arith}
 use Rattle.manifest.specs.Content.{listFrom}
-use Rattle.manifest.specs.declared.parts.Parsed.{Parsed}
-use Rattle.manifest.specs.declared.parts.Parsed.the-variants.{To, Bad}
+use Rattle.manifest_shape.specs.declared.parts.Parsed.{Parsed}
+use Rattle.manifest_shape.specs.declared.parts.Parsed.the-variants.{To, Bad}
 
 module _ {A : Type 0} (end : ℕ → Parsed) (read : ℕ → A) where
   pub list-step : (n p : ℕ) → 0 < n → {x : Parsed} {q : ℕ} → x ≡ end p → x ≡ To q →

@@ -2,9 +2,9 @@
 use Prim.Native.Nat.{ℕ, zero, suc, _+_}
 use mathlib.Core.List.{List, [], _∷_}
 use Rattle.wire.specs.Wire.{numberAt, span, onNumber, orZero}
-use Rattle.manifest.specs.declared.parts.Parsed.{Parsed}
-use Rattle.manifest.specs.declared.parts.Parsed.the-variants.{To, Bad}
-use Rattle.manifest.specs.Shape.{onParsed, andThen, bytesEnd, stringEnd, rootEnd, exportEnd}
+use Rattle.manifest_shape.specs.declared.parts.Parsed.{Parsed}
+use Rattle.manifest_shape.specs.declared.parts.Parsed.the-variants.{To, Bad}
+use Rattle.manifest_shape.specs.Shape.{onParsed, andThen, bytesEnd, stringEnd, rootEnd, exportEnd}
 
 pub record Root : Type 0 where
   pub hash : List ℕ

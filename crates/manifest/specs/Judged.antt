@@ -8,14 +8,14 @@ use Rattle.wire.specs.Wire.{sameBytes, numberAt, indexOf, found, anyOf, someOf,
 use Rattle.wire.specs.declared.Found.{Found}
 use Rattle.wire.specs.declared.Found.the-variants.{Nothing}
 use Rattle.sizes.specs.Sizes.{within, nameSize}
-use Rattle.manifest.specs.declared.parts.Parsed.the-variants.{To}
-use Rattle.manifest.specs.declared.shape.Layout.{Layout}
-use Rattle.manifest.specs.declared.shape.Manifest.{Manifest}
-use Rattle.manifest.specs.declared.shape.Manifest.the-variants.{Shape, Malformed}
+use Rattle.manifest_shape.specs.declared.parts.Parsed.the-variants.{To}
+use Rattle.manifest_shape.specs.declared.Layout.{Layout}
+use Rattle.manifest_shape.specs.declared.Manifest.{Manifest}
+use Rattle.manifest_shape.specs.declared.Manifest.the-variants.{Shape, Malformed}
 use Rattle.manifest.specs.declared.strings.Walk.{Walk}
 use Rattle.manifest.specs.declared.exports.Fault.{Fault}
 use Rattle.manifest.specs.declared.exports.Fault.the-variants.{Abi, NameSize, NameTwice}
-use Rattle.manifest.specs.Shape.{andThen, stringEnd, manifestOf}
+use Rattle.manifest_shape.specs.Shape.{andThen, stringEnd, manifestOf}
 use Rattle.manifest.specs.Content.{Root, Export, textAt, countAt, rootsAt, exportsAt, names}
 
 -- what a string has to be

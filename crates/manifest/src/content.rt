@@ -1,7 +1,7 @@
 // What stands in a manifest, as parts of the section.
 ghost use mathlib.Core.Path.{_≡_};
 ghost use Rattle.manifest.specs.Content.{textAt, hashAt, countAt};
-use crate::parts::Parsed;
+use manifest_shape::parts::Parsed;
 use wire::Num;
 
 // The text of the string that stands at a position.

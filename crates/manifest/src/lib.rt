@@ -1,22 +1,20 @@
-// The manifest of a bundle: its shape, its strings, its exports; what is refused of it (12, 13 and 14).
+// What stands in a manifest: its strings, its exports; what is refused of it (13 and 14), and exports by index and by name.
 ghost use mathlib.Core.Path.{_≡_};
-ghost use Rattle.manifest.specs.Shape.{manifestOf};
+ghost use Rattle.manifest_shape.specs.Shape.{manifestOf};
 ghost use Rattle.manifest.specs.Judged.{unsupportedAt, misnamedAt, exportName, exportIndex};
 use crate::content::count_at;
 use crate::exports::Fault;
 use crate::exports::find;
 use crate::exports::name_at;
 use crate::exports::some_faulty;
-use crate::shape::Layout;
-use crate::shape::Manifest;
-use crate::shape::read;
 use crate::strings::strings_agree;
+use manifest_shape::Layout;
+use manifest_shape::Manifest;
+use manifest_shape::read;
 use wire::Found;
 
 pub mod content;
 pub mod exports;
-pub mod parts;
-pub mod shape;
 pub mod strings;
 
 // 13: a fixed string or export abi differs, a capability is listed, or closure is 1.

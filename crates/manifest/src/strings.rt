@@ -1,10 +1,10 @@
 // The nine strings of a manifest.
 ghost use mathlib.Core.Path.{_≡_};
-ghost use Rattle.manifest.specs.Shape.{andThen, stringEnd};
+ghost use Rattle.manifest_shape.specs.Shape.{andThen, stringEnd};
 ghost use Rattle.manifest.specs.Judged.{past, stringsAgree, exactly, anyText};
 use crate::content::text_at;
-use crate::parts::Parsed;
-use crate::parts::string_end;
+use manifest_shape::parts::Parsed;
+use manifest_shape::parts::string_end;
 
 // Behind some strings, and whether all of them were as wanted.
 pub struct Walk {

@@ -7,7 +7,7 @@ use lib.Dec.{leb, eqb}
 use Rattle.wire.specs.Wire.{numberAt, spanEnd, span, sameBytes, onPos, onNumber, orZero, indexOf, found, someOf, ascii}
 use Rattle.wire.specs.declared.Pos.{Pos}
 use Rattle.wire.specs.declared.Pos.the-variants.{At, Past}
-use Rattle.sha256.specs.Fips180.{sha256}
+use Rattle.sha256_block.specs.Fips180.{sha256}
 use Rattle.sizes.specs.Sizes.{within, nodesSize}
 use Rattle.nodes.specs.declared.faults.Fault.{Fault}
 use Rattle.nodes.specs.declared.faults.Fault.the-variants.{Hash, Twice, Child}

@@ -6,9 +6,9 @@ use native.Mathlib.Nat.{sub-zero}
 use native.Mathlib.Omega.{arith}
 use lib.ListN.{length, take, drop, length-append, length-take, take-append-drop}
 use Rattle.sha256.specs.declared.Running.{Running}
-use Rattle.sha256.specs.Fips180.{compress, hash}
+use Rattle.sha256_block.specs.Fips180.{compress, hash}
 use Rattle.sha256.specs.Running.{pending, inBlock, buffered, absorbed}
-use Rattle.sha256.proofs.Lists.{rest-of}
+use Rattle.sha256_block.proofs.Lists.{rest-of}
 use Rattle.sha256.proofs.Filling.{block-full}
 use Rattle.sha256.proofs.Buffering.{buffered-first}
 

@@ -6,10 +6,10 @@ use native.Mathlib.Omega.{arith}
 use lib.ListN.{length, take, drop, length-take, length-drop}
 use lib.Seq.{drop-drop}
 use Rattle.sha256.specs.declared.Running.{Running}
-use Rattle.sha256.specs.Fips180.{compress, hash, hashAll}
+use Rattle.sha256_block.specs.Fips180.{compress, hash, hashAll}
 use Rattle.sha256.specs.Running.{pending, inBlock, buffered}
-use Rattle.sha256.proofs.Lists.{rest-of}
-use Rattle.sha256.proofs.Blocks.{rest-append, rest-count, hash-split, block-hash, block-rest}
+use Rattle.sha256_block.proofs.Lists.{rest-of}
+use Rattle.sha256_block.proofs.Blocks.{rest-append, rest-count, hash-split, block-hash, block-rest}
 use Rattle.sha256.proofs.Filling.{take-block}
 
 -- q blocks of xs are hashed before the rest of xs and ys

@@ -6,10 +6,10 @@ use native.Mathlib.Nat.{zero-add}
 use native.Mathlib.Omega.{arith}
 use lib.ListN.{length, drop, length-append}
 use Rattle.sha256.specs.declared.Running.{Running}
-use Rattle.sha256.specs.Fips180.{H0, zeros, padding, padded, hash, hashAll, bytesOf, sha256}
+use Rattle.sha256_block.specs.Fips180.{H0, zeros, padding, padded, hash, hashAll, bytesOf, sha256}
 use Rattle.sha256.specs.Running.{pending, inBlock, buffered, fresh, absorbed, absorbedAll, after, finished}
 use Rattle.sha256.specs.Running.{PartsJoin, FinishHashes}
-use Rattle.sha256.proofs.Blocks.{hash-split}
+use Rattle.sha256_block.proofs.Blocks.{hash-split}
 use Rattle.sha256.proofs.Buffering.{buffered-split, pending-buffered, pending-length}
 
 -- absorbing two parts one after the other is absorbing their join, from any state

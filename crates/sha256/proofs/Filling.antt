@@ -8,7 +8,7 @@ use lib.ListN.{length, getD, take, drop, set, replicate, length-append, length-t
 use lib.ListN.{drop-of-length-le, replicate-append-replicate}
 use lib.Seq.{paste, paste-suc, take-paste, take-length, take-at}
 use Rattle.sha256.specs.Running.{inBlock}
-use Rattle.sha256.proofs.Lists.{take-store}
+use Rattle.sha256_block.proofs.Lists.{take-store}
 
 pub paste-step : (d : List ℕ) (at : ℕ) (s : List ℕ) (j : ℕ) (out : List ℕ) → out ≡ paste d at s j → at + j < length d
     → j < length s → set out (at + j) (getD s j 0) ≡ paste d at s (j + 1)

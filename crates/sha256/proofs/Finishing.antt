@@ -6,11 +6,11 @@ use native.Mathlib.Omega.{arith}
 use lib.ListN.{length, take, replicate, length-append, length-take, length-replicate, replicate-append-replicate}
 use lib.Seq.{paste, append-snoc}
 use Rattle.sha256.specs.declared.Running.{Running}
-use Rattle.sha256.specs.Fips180.{zeros, lengthBytes, padding, compress, hashAll, bytesOf}
+use Rattle.sha256_block.specs.Fips180.{zeros, lengthBytes, padding, compress, hashAll, bytesOf}
 use Rattle.sha256.specs.Running.{pending, inBlock, finished}
-use Rattle.sha256.proofs.Blocks.{hash-first, hash-one}
+use Rattle.sha256_block.proofs.Blocks.{hash-first, hash-one}
 use Rattle.sha256.proofs.Filling.{block-length, paste-last}
-use Rattle.sha256.proofs.Padding.{length-of-length}
+use Rattle.sha256_block.proofs.Padding.{length-of-length}
 
 -- what is buffered, with the first byte of padding behind it
 begun : Running → List ℕ

@@ -1,11 +1,5 @@
-pub mod Lists
-pub mod Schedule
-pub mod Rounds
-pub mod Blocks
 pub mod Filling
 pub mod Buffering
 pub mod Absorbing
-pub mod Padding
 pub mod Finishing
 pub mod Clients
-pub mod Constants

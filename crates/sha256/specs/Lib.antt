@@ -1,3 +1,1 @@
-pub mod Fips180
-pub mod Constants
 pub mod Running

@@ -4,7 +4,7 @@ use mathlib.Core.Path.{_≡_}
 use mathlib.Core.List.{List, [], _∷_, _++_, flatten}
 use lib.ListN.{length, take, drop, replicate}
 use Rattle.sha256.specs.declared.Running.{Running}
-use Rattle.sha256.specs.Fips180.{H0, padding, hashAll, bytesOf, sha256}
+use Rattle.sha256_block.specs.Fips180.{H0, padding, hashAll, bytesOf, sha256}
 
 -- the bytes that are buffered: those since the last whole block
 unfoldable pub pending : Running → List ℕ

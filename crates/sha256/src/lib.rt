@@ -4,11 +4,8 @@ ghost use mathlib.Core.List.{_++_};
 ghost use Prim.Native.Nat.{_+_, _-_, _≤_};
 ghost use lib.ListN.{length, take, replicate};
 ghost use lib.Seq.{paste};
-ghost use Rattle.sha256.specs.Fips180.{lengthBytes, sha256};
+ghost use Rattle.sha256_block.specs.Fips180.{sha256};
 ghost use Rattle.sha256.specs.Running.{inBlock, buffered, fresh, absorbed, finished};
-
-mod block;
-mod word;
 
 // A hash of the bytes so far: the hash value after their whole blocks, the bytes since in the first places of the
 // block with zeros behind them, and the count of bytes, modulo 2^64.
@@ -54,24 +51,11 @@ fn in_block(block: [u8; 64], at: usize, part: &[u8]) -> [u8; 64]
     clear(store(block, at, part), at + part.len())
 }
 
-// The count of bits in 8 bytes.
-fn length_bytes(bits: u64) -> [u8; 8]
-    ensures { λ r. ⌜ r ≡ lengthBytes bits ⌝ }
-{
-    let mut out = [0u8; 8];
-    let mut i: usize = 0;
-    while i < 8 {
-        out[i] = word::length_byte(bits, i as u64);
-        i += 1;
-    }
-    out
-}
-
 // The whole blocks of m are hashed, and the bytes behind them are buffered.
 fn buffered(v: [u32; 8], m: &[u8], total: u64) -> Running
     ensures { λ r. ⌜ r ≡ buffered v (now (m .entry)) total ⌝ }
 {
-    let h = block::hash_all(v, m);
+    let h = sha256_block::hash_all(v, m);
     let n = m.len() / 64 * 64;
     let block = in_block([0; 64], 0, &m[n..]);
     Running { h, block, total }
@@ -117,7 +101,7 @@ impl Running {
             };
         }
         let full = in_block(old, at, &part[0..need]);
-        buffered(block::compress(v, &full), &part[need..], total)
+        buffered(sha256_block::compress(v, &full), &part[need..], total)
     }
 
     // The digest, after the padding.
@@ -125,15 +109,15 @@ impl Running {
         ensures { λ r. ⌜ r ≡ finished self ⌝ }
     {
         let at = (self.total % 64) as usize;
-        let size = length_bytes(self.total << 3);
+        let size = sha256_block::length_bytes(self.total << 3);
         let v = self.h;
         let old = self.block;
         let marked = in_block(old, at, b"\x80");
         if at < 56 {
-            return block::bytes_of(block::compress(v, &store(marked, 56, &size)));
+            return sha256_block::bytes_of(sha256_block::compress(v, &store(marked, 56, &size)));
         }
-        let h = block::compress(v, &marked);
-        block::bytes_of(block::compress(h, &store([0; 64], 56, &size)))
+        let h = sha256_block::compress(v, &marked);
+        sha256_block::bytes_of(sha256_block::compress(h, &store([0; 64], 56, &size)))
     }
 }
 

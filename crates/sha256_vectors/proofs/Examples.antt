@@ -2,8 +2,8 @@
 use Prim.Native.Nat.{ℕ}
 use mathlib.Core.Path.{_≡_, refl}
 use mathlib.Core.List.{List, [], _∷_}
-use Rattle.sha256.specs.Fips180.{K, H0, tabulate, lengthBytes, padding, padded, nextWord, schedule, round, rounds}
-use Rattle.sha256.specs.Fips180.{combined, compress, hash, bytesOf, sha256}
+use Rattle.sha256_block.specs.Fips180.{K, H0, tabulate, lengthBytes, padding, padded, nextWord, schedule, round, rounds}
+use Rattle.sha256_block.specs.Fips180.{combined, compress, hash, bytesOf, sha256}
 
 -- "abc"
 pub one-block : sha256 (0x61 ∷ 0x62 ∷ 0x63 ∷ [])

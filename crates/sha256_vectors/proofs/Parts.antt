@@ -6,7 +6,7 @@ use native.Mathlib.Omega.{arith}
 use lib.ListN.{length, take, drop}
 use lib.Seq.{take-add, take-all}
 use Rattle.sha256.specs.declared.Running.{Running}
-use Rattle.sha256.specs.Fips180.{sha256}
+use Rattle.sha256_block.specs.Fips180.{sha256}
 use Rattle.sha256.specs.Running.{fresh, absorbed, after, finished}
 use Rattle.sha256.proofs.Clients.{fresh-after, absorbed-after, finished-after}
 

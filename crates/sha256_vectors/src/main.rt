@@ -3,7 +3,7 @@
 ghost use mathlib.Core.Path.{_≡_};
 ghost use Prim.Native.Nat.{_≤_};
 ghost use lib.ListN.{length};
-ghost use Rattle.sha256.specs.Fips180.{sha256};
+ghost use Rattle.sha256_block.specs.Fips180.{sha256};
 use sha256::Running;
 
 fn wide(b: u8) -> u64 {

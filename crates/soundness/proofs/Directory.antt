@@ -10,7 +10,7 @@ use lib.Dec.{ltb, eqb}
 use lib.ListN.{length}
 use Rattle.wire.specs.Relations.{Among}
 use Rattle.wire.proofs.Bytes.{same-exactly}
-use Rattle.sha256.specs.Fips180.{sha256}
+use Rattle.sha256_block.specs.Fips180.{sha256}
 use Rattle.wire.proofs.Some.{any-none, any-more, none-exactly}
 use Rattle.wire.proofs.Tests.{below-exactly, equal-exactly, not-exactly, where-exactly, unless-exactly}
 use Rattle.bundle.specs.declared.directory.Entry.{Entry}

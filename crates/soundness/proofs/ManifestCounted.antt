@@ -11,11 +11,11 @@ use Rattle.wire.proofs.Reading.{Reads, reads-none, reads-join, reads-split, num
 use Rattle.sizes.specs.Sizes.{within, capabilitiesSize, rootsSize, exportsSize, fieldsSize}
 use Rattle.sizes.specs.declared.Size.{Size}
 use Rattle.sizes.proofs.Within.{within-exactly}
-use Rattle.manifest.specs.declared.parts.Parsed.{Parsed}
-use Rattle.manifest.specs.declared.parts.Parsed.the-variants.{To}
-use Rattle.manifest.specs.declared.parts.Kind.{Kind}
-use Rattle.manifest.specs.declared.parts.Kind.the-variants.{Text, Root, Export, Field}
-use Rattle.manifest.specs.Shape.{stringEnd, fieldEnd, itemEnd, itemsEnd, countedEnd}
+use Rattle.manifest_shape.specs.declared.parts.Parsed.{Parsed}
+use Rattle.manifest_shape.specs.declared.parts.Parsed.the-variants.{To}
+use Rattle.manifest_shape.specs.declared.parts.Kind.{Kind}
+use Rattle.manifest_shape.specs.declared.parts.Kind.the-variants.{Text, Root, Export, Field}
+use Rattle.manifest_shape.specs.Shape.{stringEnd, fieldEnd, itemEnd, itemsEnd, countedEnd}
 use Rattle.manifest.specs.Content.{textAt, countAt, listFrom, rootsAt, exportsAt}
 use Rattle.soundness.specs.ManifestGrammar.{IsString, IsRoot, IsExport, IsField, IsCounted, counted}
 use Rattle.soundness.proofs.ManifestParses.{Parses, then-to, number-to, cond-to}

@@ -12,10 +12,10 @@ use Rattle.wire.proofs.Some.{any-none, any-more}
 use Rattle.wire.proofs.Tests.{not-exactly}
 use Rattle.wire.proofs.Bytes.{not-both}
 use Rattle.wire.proofs.Reading.{reads-all}
-use Rattle.manifest.specs.declared.shape.Layout.{Layout}
-use Rattle.manifest.specs.declared.shape.Manifest.{Manifest}
-use Rattle.manifest.specs.declared.shape.Manifest.the-variants.{Shape, Malformed}
-use Rattle.manifest.specs.Shape.{manifestOf}
+use Rattle.manifest_shape.specs.declared.Layout.{Layout}
+use Rattle.manifest_shape.specs.declared.Manifest.{Manifest}
+use Rattle.manifest_shape.specs.declared.Manifest.the-variants.{Shape, Malformed}
+use Rattle.manifest_shape.specs.Shape.{manifestOf}
 use Rattle.manifest.specs.Content.{exportsAt}
 use Rattle.manifest.specs.Judged.{malformed, unsupportedAt, unsupported, misnamedAt, misnamed, rootsOf, exportsOf}
 use Rattle.soundness.specs.ManifestGrammar.{Contents, IsManifest}

@@ -11,9 +11,9 @@ use Rattle.wire.specs.declared.Num.the-variants.{Value, Short}
 use Rattle.wire.specs.declared.Pos.{Pos}
 use Rattle.wire.specs.declared.Pos.the-variants.{At, Past}
 use Rattle.wire.proofs.Reading.{Reads, span-reads, reads-span}
-use Rattle.manifest.specs.declared.parts.Parsed.{Parsed}
-use Rattle.manifest.specs.declared.parts.Parsed.the-variants.{To, Bad}
-use Rattle.manifest.specs.Shape.{andThen, bytesEnd}
+use Rattle.manifest_shape.specs.declared.parts.Parsed.{Parsed}
+use Rattle.manifest_shape.specs.declared.parts.Parsed.the-variants.{To, Bad}
+use Rattle.manifest_shape.specs.Shape.{andThen, bytesEnd}
 
 -- where the parser ends, the bytes are what the reader gives; and where bytes are such a thing, the two give it
 pub record Parses {A : Type 0} (s : List ℕ) (end : ℕ → Parsed) (read : ℕ → A) (Is : A → List ℕ → Type 0) : Type 0 where

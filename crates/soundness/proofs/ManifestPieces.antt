@@ -15,10 +15,10 @@ use Rattle.utf8.specs.Rfc3629.{Utf8Octets}
 use Rattle.utf8.specs.declared.Utf8.{Utf8}
 use Rattle.utf8.specs.declared.Utf8.the-variants.{Valid, BadAt}
 use Rattle.utf8.proofs.Meaning.{valid-exactly}
-use Rattle.manifest.specs.declared.parts.Parsed.{Parsed}
-use Rattle.manifest.specs.declared.parts.Parsed.the-variants.{To}
-use Rattle.manifest.specs.Shape.{ifValid, bytesEnd, textEnd, stringEnd, rootEnd, exportEnd}
-use Rattle.manifest.specs.Shape.{sizedEnd, fieldEnd, closureEnd}
+use Rattle.manifest_shape.specs.declared.parts.Parsed.{Parsed}
+use Rattle.manifest_shape.specs.declared.parts.Parsed.the-variants.{To}
+use Rattle.manifest_shape.specs.Shape.{ifValid, bytesEnd, textEnd, stringEnd, rootEnd, exportEnd}
+use Rattle.manifest_shape.specs.Shape.{sizedEnd, fieldEnd, closureEnd}
 use Rattle.manifest.specs.Content.{Root, Export, textAt, hashAt, rootAt, exportAt}
 use Rattle.soundness.specs.ManifestGrammar.{Field, IsString, string, IsRoot, root, IsExport, export, IsField, field}
 use Rattle.soundness.proofs.ManifestParses.{Parses, not-to, to-same, then-to, number-to, cond-to, bytes-reads, reads-bytes}

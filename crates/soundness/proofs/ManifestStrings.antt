@@ -7,10 +7,10 @@ use mathlib.Core.Logic.{_↔_}
 use lib.ListN.{length}
 use Rattle.wire.specs.Wire.{sameBytes}
 use Rattle.wire.proofs.Bytes.{same-sound, same-true, not-both}
-use Rattle.manifest.specs.declared.parts.Parsed.{Parsed}
-use Rattle.manifest.specs.declared.parts.Parsed.the-variants.{To}
-use Rattle.manifest.specs.declared.parts.Kind.the-variants.{Text}
-use Rattle.manifest.specs.Shape.{andThen, stringEnd, itemEnd, itemsEnd}
+use Rattle.manifest_shape.specs.declared.parts.Parsed.{Parsed}
+use Rattle.manifest_shape.specs.declared.parts.Parsed.the-variants.{To}
+use Rattle.manifest_shape.specs.declared.parts.Kind.the-variants.{Text}
+use Rattle.manifest_shape.specs.Shape.{andThen, stringEnd, itemEnd, itemsEnd}
 use Rattle.manifest.specs.Content.{textAt, textsFrom, listFrom}
 use Rattle.manifest.specs.Judged.{Wanted, exactly, anyText, meets, past, pastAll, nineStrings, stringsAgree}
 use Rattle.soundness.specs.ManifestMeaning.{Agree, none, same, any}

@@ -12,13 +12,13 @@ use Rattle.wire.specs.Relations.{Number}
 use Rattle.wire.proofs.Reading.{Reads, all-reads, reads-join, reads-split}
 use Rattle.wire.proofs.Reading.{number-reads, reads-number, holds-reads, reads-holds}
 use Rattle.sizes.specs.Sizes.{capabilitiesSize, rootsSize, exportsSize, fieldsSize}
-use Rattle.manifest.specs.declared.parts.Parsed.{Parsed}
-use Rattle.manifest.specs.declared.parts.Parsed.the-variants.{To, Bad}
-use Rattle.manifest.specs.declared.parts.Kind.the-variants.{Text, Root, Export, Field}
-use Rattle.manifest.specs.declared.shape.Layout.{Layout}
-use Rattle.manifest.specs.declared.shape.Manifest.the-variants.{Shape, Malformed}
-use Rattle.manifest.specs.Shape.{itemEnd, itemsEnd, countedEnd, stringEnd, fieldEnd}
-use Rattle.manifest.specs.Shape.{andThen, closureEnd, headEnd, place, ending, manifestOf}
+use Rattle.manifest_shape.specs.declared.parts.Parsed.{Parsed}
+use Rattle.manifest_shape.specs.declared.parts.Parsed.the-variants.{To, Bad}
+use Rattle.manifest_shape.specs.declared.parts.Kind.the-variants.{Text, Root, Export, Field}
+use Rattle.manifest_shape.specs.declared.Layout.{Layout}
+use Rattle.manifest_shape.specs.declared.Manifest.the-variants.{Shape, Malformed}
+use Rattle.manifest_shape.specs.Shape.{itemEnd, itemsEnd, countedEnd, stringEnd, fieldEnd}
+use Rattle.manifest_shape.specs.Shape.{andThen, closureEnd, headEnd, place, ending, manifestOf}
 use Rattle.manifest.specs.Content.{textAt, textsFrom, rootsAt, exportsAt}
 use Rattle.soundness.specs.ManifestGrammar.{Contents, IsManifest, manifest}
 use Rattle.soundness.proofs.ManifestParses.{then-to, number-to, cond-to, bytes-reads, reads-bytes}

@@ -7,7 +7,7 @@ use mathlib.Core.List.{List}
 use lib.ListN.{length, take, drop}
 use Rattle.wire.specs.Wire.{ascii}
 use Rattle.wire.specs.Relations.{Number, Among, Distinct}
-use Rattle.sha256.specs.Fips180.{sha256}
+use Rattle.sha256_block.specs.Fips180.{sha256}
 use Rattle.sizes.specs.Sizes.{fileSize, sectionsSize}
 use Rattle.manifest.specs.Content.{Root, Export}
 use Rattle.soundness.specs.ManifestGrammar.{Contents, IsManifest}

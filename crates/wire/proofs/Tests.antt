@@ -16,6 +16,11 @@ equal-exactly a b = (eqb-true a b, eq-eqb a b)
 pub not-exactly : {A : Type 0} (t : Bool) → (t ≡ true) ↔ A → (not t ≡ false) ↔ A
 not-exactly t f = (λ e. f .0 (not-false t e), λ a. rw (f .1 a))
 
+-- the choice between true and false by a test is the test
+pub cond-test : (b : Bool) → cond b true false ≡ b
+cond-test true = refl
+cond-test false = refl
+
 -- neither of two tests holds
 pub either-false : (a b : Bool) → (cond a true b ≡ false) ↔ ((a ≡ false) × (b ≡ false))
 either-false true b = (λ e. not-both refl e, λ h. h .0)

@@ -2,7 +2,7 @@
 use borrow.Author.Needs.{needs}
 use Rattle.wire.specs.Wire.{anyOf}
 use Rattle.manifest.specs.Judged.{misnamedAt}
-use Rattle.manifest.proofs.Choices.{cond-test}
+use Rattle.wire.proofs.Tests.{cond-test}
 use Rattle.manifest.proofs.misnamed.Statement.{statement}
 use Rattle.manifest.proofs.misnamed.Tie as tie
 

@@ -4,7 +4,7 @@ use borrow.Author.Needs.{needs}
 use borrow.Author.Tests.{eq-eqb, ne-eqb, not-true, not-false}
 use Rattle.wire.specs.Wire.{anyOf}
 use Rattle.manifest.specs.Judged.{unsupportedAt}
-use Rattle.manifest.proofs.Choices.{cond-test}
+use Rattle.wire.proofs.Tests.{cond-test}
 use Rattle.manifest.proofs.unsupported.Statement.{statement}
 use Rattle.manifest.proofs.unsupported.Tie as tie
 

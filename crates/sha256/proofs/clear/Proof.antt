@@ -3,7 +3,7 @@ use Prim.Native.Nat.{_-_, _≤_}
 use mathlib.Core.Path.{_≡_}
 use native.Mathlib.Omega.{arith}
 use lib.ListN.{length, take, length-set}
-use Rattle.sha256.proofs.Lists.{filled}
+use Rattle.sha256_block.proofs.Lists.{filled}
 use Rattle.sha256.proofs.Filling.{cleared, clear-none, clear-step}
 use borrow.Author.Needs.{needs}
 use Rattle.sha256.proofs.clear.Statement.{statement}

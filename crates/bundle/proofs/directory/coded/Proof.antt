@@ -1,7 +1,7 @@
 -- Two tests.
 use borrow.Author.Tests.{eq-eqb, ne-eqb}
 use Rattle.wire.specs.Wire.{anyOf}
-use Rattle.manifest.proofs.Choices.{cond-test}
+use Rattle.wire.proofs.Tests.{cond-test}
 use Rattle.bundle.specs.Directory.{coded}
 use Rattle.bundle.proofs.directory.coded.Statement.{statement}
 use Rattle.bundle.proofs.directory.coded.Tie as tie

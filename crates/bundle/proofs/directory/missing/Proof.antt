@@ -2,7 +2,7 @@
 use borrow.Author.Needs.{needs}
 use borrow.Author.Tests.{eq-eqb, ne-eqb}
 use Rattle.wire.specs.Wire.{anyOf}
-use Rattle.manifest.proofs.Choices.{cond-test}
+use Rattle.wire.proofs.Tests.{cond-test}
 use Rattle.bundle.specs.Directory.{entries, missing}
 use Rattle.bundle.proofs.directory.missing.Statement.{statement}
 use Rattle.bundle.proofs.directory.missing.Tie as tie

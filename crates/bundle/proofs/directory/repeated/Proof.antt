@@ -2,7 +2,7 @@
 use borrow.Author.Needs.{needs}
 use borrow.Author.Tests.{lt-ltb, le-ltb}
 use Rattle.wire.specs.Wire.{anyOf}
-use Rattle.manifest.proofs.Choices.{cond-test}
+use Rattle.wire.proofs.Tests.{cond-test}
 use Rattle.bundle.specs.Directory.{entries, repeated}
 use Rattle.bundle.proofs.directory.repeated.Statement.{statement}
 use Rattle.bundle.proofs.directory.repeated.Tie as tie

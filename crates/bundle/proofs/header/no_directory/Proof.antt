@@ -5,7 +5,7 @@ use borrow.Author.Needs.{needs}
 use borrow.Author.Tests.{eq-eqb, ne-eqb, not-true, not-false}
 use Rattle.wire.specs.Wire.{anyOf}
 use Rattle.sizes.proofs.Within.{within-exactly}
-use Rattle.manifest.proofs.Choices.{cond-test}
+use Rattle.wire.proofs.Tests.{cond-test}
 use Rattle.bundle.specs.Header.{noDirectory, directoryOffset}
 use Rattle.bundle.proofs.header.no_directory.Statement.{statement}
 use Rattle.bundle.proofs.header.no_directory.Tie as tie

@@ -3,7 +3,7 @@ use mathlib.Core.Path.{sym, _∙_}
 use borrow.Author.Needs.{needs}
 use Rattle.wire.specs.Wire.{anyOf}
 use Rattle.manifest.specs.Judged.{rootsOf, exportsOf}
-use Rattle.manifest.proofs.Choices.{cond-test}
+use Rattle.wire.proofs.Tests.{cond-test}
 use Rattle.nodes.specs.Records.{lacks}
 use Rattle.bundle.specs.References.{rootHashes, exportHashes, unresolved}
 use Rattle.bundle.proofs.Hashes.{hashes-roots, hashes-exports}

@@ -1,0 +1,6 @@
+pub mod Lists
+pub mod Words
+pub mod FourRounds
+pub mod Blocks
+pub mod Padding
+pub mod Constants
