@@ -6,14 +6,16 @@ use mathlib.Core.Bool.{Bool, true, false, not}
 use native.Mathlib.Omega.{arith}
 use native.Mathlib.Decide.{decLe}
 use borrow.Author.Tests.{lt-ltb, le-ltb, eq-eqb, ne-eqb}
-use lib.Dec.{ltb}
+use lib.Dec.{ltb, eqb}
 use lib.ListN.{length}
-use Rattle.wire.specs.Wire.{inside, span, someOf}
+use Rattle.wire.specs.Wire.{inside, someOf}
 use Rattle.wire.proofs.Spans.{inside-in, inside-out}
+use Rattle.wire.proofs.Tests.{below-exactly, either-false}
 use Rattle.bundle.specs.declared.directory.Entry.{Entry}
 use Rattle.bundle.specs.declared.directory.Fault.{Fault}
+use Rattle.bundle.specs.declared.directory.Fault.the-variants.{Outside}
 use Rattle.bundle.specs.Header.{entryBytes}
-use Rattle.bundle.specs.Directory.{entryAt, entriesFrom, faulty, someFaulty, occurrences, sectionIn}
+use Rattle.bundle.specs.Directory.{entryAt, entriesFrom, faulty, someFaulty, outside, occurrences, noEntry, entryOf}
 
 -- the test that a span lies inside is the test that its end does not pass the end of the file
 pub outside-test : (s : List ℕ) (start n : ℕ) → not (inside s start n) ≡ ltb (length s) (start + n)
@@ -59,15 +61,14 @@ module _ (file : List ℕ) (n p : ℕ) (h : 0 < n) {e : Entry} (g : e ≡ entryA
   unfolding occurrences
   counted-next kind seen t = rw (entries-more file n p h g, ne-eqb (e .kind) kind t)
 
-  pub section-here : (kind : ℕ) {s : List ℕ} → e .kind ≡ kind → s ≡ span file (e .offset) (e .size) →
-      sectionIn file kind (entriesFrom file n p) ≡ s
-  unfolding sectionIn
-  section-here kind t f = rw (entries-more file n p h g, eq-eqb (e .kind) kind t, f)
+  pub entry-here : (kind : ℕ) → e .kind ≡ kind → entryOf kind (entriesFrom file n p) ≡ e
+  unfolding entryOf
+  entry-here kind t = rw (entries-more file n p h g, eq-eqb (e .kind) kind t)
 
-  pub section-next : (kind : ℕ) → (e .kind ≡ kind → ⊥) →
-      sectionIn file kind (entriesFrom file n p) ≡ sectionIn file kind (entriesFrom file (n - 1) (p + entryBytes))
-  unfolding sectionIn
-  section-next kind t = rw (entries-more file n p h g, ne-eqb (e .kind) kind t)
+  pub entry-next : (kind : ℕ) → (e .kind ≡ kind → ⊥) →
+      entryOf kind (entriesFrom file n p) ≡ entryOf kind (entriesFrom file (n - 1) (p + entryBytes))
+  unfolding entryOf
+  entry-next kind t = rw (entries-more file n p h g, ne-eqb (e .kind) kind t)
 
 -- behind the last entry
 module _ (file : List ℕ) (n p : ℕ) (h : n ≤ 0) where
@@ -79,6 +80,22 @@ module _ (file : List ℕ) (n p : ℕ) (h : n ≤ 0) where
   unfolding occurrences
   counted-end kind seen = rw (entries-end file n p h) (omega arith)
 
-  pub section-end : (kind : ℕ) → sectionIn file kind (entriesFrom file n p) ≡ []
-  unfolding sectionIn
-  section-end kind = rw (entries-end file n p h)
+  pub entry-end : (kind : ℕ) → entryOf kind (entriesFrom file n p) ≡ noEntry
+  unfolding entryOf
+  entry-end kind = rw (entries-end file n p h)
+
+-- where 8 does not hold, the section of a type lies in the file
+pub section-inside : (file : List ℕ) (kind : ℕ) (es : List Entry) → someFaulty file Outside es ≡ false →
+    entryOf kind es .offset + entryOf kind es .size ≤ length file
+unfolding someFaulty someOf faulty outside entryOf
+section-inside file kind [] e = omega arith
+section-inside file kind (x ∷ es) e =
+    let (here, later) = either-false (outside file x) (someFaulty file Outside es) .0 e in
+    test (eqb (x .kind) kind) refl (below-exactly (length file) (x .offset + x .size) .0 here)
+    (section-inside file kind es later)
+  where
+    test : (b : Bool) → eqb (x .kind) kind ≡ b → x .offset + x .size ≤ length file →
+        entryOf kind es .offset + entryOf kind es .size ≤ length file →
+        entryOf kind (x ∷ es) .offset + entryOf kind (x ∷ es) .size ≤ length file
+    test true q this rest = rw q this
+    test false q this rest = rw q rest

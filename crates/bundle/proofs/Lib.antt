@@ -3,3 +3,4 @@ pub mod Entries
 pub mod Hashes
 pub mod Rows
 pub mod Stages
+pub mod NameParts

@@ -7,11 +7,12 @@ use mathlib.Core.Bool.{Bool, true, false}
 use native.Mathlib.Omega.{arith}
 use lib.ListN.{length}
 use Rattle.bundle.specs.Header.{headerBytes, entryBytes, sectionCount}
-use Rattle.bundle.specs.Directory.{manifestSection, nodesSection}
+use Rattle.bundle.specs.Directory.{entries, entryOf, manifestSection, nodesSection}
 use Rattle.bundle.specs.Checks.{Check, firstOf, headerChecks, directoryChecks, manifestChecks, nodeChecks}
 use Rattle.bundle.specs.Checks.{nameChecks, checks, nameRefusal, refusal}
 use Rattle.bundle.proofs.Rows.{Clear, first-clear, clear-parts}
 use Rattle.bundle.proofs.HeaderLaws.{directory-exactly}
+use Rattle.bundle.proofs.Entries.{section-inside}
 
 -- two tables, one behind the other; k stands for the answer of the first
 first-found : (cs ds : List Check) {k : ℕ} → k ≡ firstOf cs → (k ≡ 0 → ⊥) → k ≡ firstOf (cs ++ ds)
@@ -55,6 +56,14 @@ module _ (file : List ℕ) where
   pub names-inside : {n : ℕ} → n ≡ nameRefusal file → n ≡ 0 → headerBytes + entryBytes * sectionCount file ≤ length file
   unfolding nameChecks
   names-inside e z = clear-inside (clear-parts (headerChecks file) _ .0 (names-clear e z) .0)
+
+  -- the section of a type lies in the file
+  pub names-section : {n : ℕ} → n ≡ nameRefusal file → n ≡ 0 → (kind : ℕ) →
+      entryOf kind (entries file) .offset + entryOf kind (entries file) .size ≤ length file
+  unfolding nameChecks directoryChecks
+  names-section e z kind =
+      let rest = clear-parts (headerChecks file) _ .0 (names-clear e z) .1 in
+      section-inside file kind (entries file) (clear-parts (directoryChecks file) (manifestChecks (manifestSection file)) .0 rest .0 .1 .1 .0)
 
   -- who answers
   pub by-header : {h : ℕ} → h ≡ firstOf (headerChecks file) → (h ≡ 0 → ⊥) → h ≡ nameRefusal file

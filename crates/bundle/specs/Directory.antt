@@ -90,13 +90,17 @@ unfoldable pub missing : List ℕ → Bool
 missing file =
     anyOf (eqb (occurrences manifestKind (entries file)) 0 ∷ eqb (occurrences nodesKind (entries file)) 0 ∷ [])
 
--- the bytes of the first section of a type; none where there is none
-unfoldable pub sectionIn : List ℕ → ℕ → List Entry → List ℕ
-sectionIn file kind [] = []
-sectionIn file kind (e ∷ es) = cond (eqb (e .kind) kind) (sectionOf file e) (sectionIn file kind es)
+-- the first entry of a type; where there is none, one that names no bytes
+abbrev pub noEntry : Entry
+noEntry = record { kind = 0; flags = 0; compression = 0; algorithm = 0; offset = 0; size = 0; digest = 0 }
 
+unfoldable pub entryOf : ℕ → List Entry → Entry
+entryOf kind [] = noEntry
+entryOf kind (e ∷ es) = cond (eqb (e .kind) kind) e (entryOf kind es)
+
+-- the bytes of its section
 unfoldable pub section : List ℕ → ℕ → List ℕ
-section file kind = sectionIn file kind (entries file)
+section file kind = sectionOf file (entryOf kind (entries file))
 
 -- the manifest section and the nodes section
 abbrev pub manifestSection : List ℕ → List ℕ

@@ -1,20 +1,43 @@
 -- The two calls on exports.
-use Prim.Native.Nat.{ℕ}
+use Prim.Native.Nat.{ℕ, _+_}
 use mathlib.Core.List.{List, [], _∷_}
 use mathlib.Core.Bool.{cond}
 use lib.Dec.{eqb}
 use Rattle.wire.specs.declared.Found.{Found}
 use Rattle.wire.specs.declared.Found.the-variants.{Index as FoundAt, Nothing}
-use Rattle.manifest.specs.Judged.{exportName, exportIndex}
+use Rattle.wire.specs.Wire.{span}
+use Rattle.manifest_shape.specs.declared.parts.Parsed.{Parsed}
+use Rattle.manifest_shape.specs.Shape.{onParsed}
+use Rattle.manifest.specs.Content.{countAt}
+use Rattle.manifest.specs.Judged.{exportPlace, exportIndex}
+use Rattle.bundle.specs.declared.exports.Part.{Part}
 use Rattle.bundle.specs.declared.exports.IndexAnswer.{IndexAnswer}
 use Rattle.bundle.specs.declared.exports.IndexAnswer.the-variants.{Refused, Index}
-use Rattle.bundle.specs.Directory.{manifestSection}
+use Rattle.bundle.specs.Directory.{entries, entryOf, manifestKind, manifestSection}
 use Rattle.bundle.specs.Checks.{nameRefusal}
+
+abbrev pub emptyPart : Part
+emptyPart = record { start = 0; size = 0 }
+
+-- where the manifest section starts
+abbrev pub manifestStart : List ℕ → ℕ
+manifestStart file = entryOf manifestKind (entries file) .offset
+
+-- the name of an export that stands at a position of the manifest section: behind its length, and as long as that says
+unfoldable pub nameAt : List ℕ → Parsed → Part
+nameAt file p =
+    onParsed p
+    (λ at. record { start = manifestStart file + (at + 4); size = countAt (manifestSection file) at })
+    emptyPart
 
 -- export name by index: the part of the file that is the name, or the empty part if any of 1 to 14 holds or there is no such
 -- index
+unfoldable pub namePart : List ℕ → ℕ → Part
+namePart file i = cond (eqb (nameRefusal file) 0) (nameAt file (exportPlace (manifestSection file) i)) emptyPart
+
+-- the bytes of that part
 unfoldable pub nameCall : List ℕ → ℕ → List ℕ
-nameCall file i = cond (eqb (nameRefusal file) 0) (exportName (manifestSection file) i) []
+nameCall file i = span file (namePart file i .start) (namePart file i .size)
 
 -- the empty name means the first export
 unfoldable pub indexAsked : List ℕ → List ℕ → Found

@@ -3,8 +3,8 @@ ghost use mathlib.Core.Path.{_≡_};
 ghost use Prim.Native.Nat.{_+_, _*_, _≤_};
 ghost use lib.ListN.{length};
 ghost use Rattle.bundle.specs.Header.{headerBytes, entryBytes, sectionCount};
-ghost use Rattle.bundle.specs.Directory.{entryAt, entriesFrom, known, critical, coded, outside, altered, faulty};
-ghost use Rattle.bundle.specs.Directory.{someFaulty, occurrences, repeated, missing, sectionIn, section};
+ghost use Rattle.bundle.specs.Directory.{entryAt, entriesFrom, entries, known, critical, coded, outside, altered, faulty};
+ghost use Rattle.bundle.specs.Directory.{someFaulty, occurrences, repeated, missing, entryOf, section};
 ghost use Rattle.bundle.specs.Checks.{firstOf, directoryChecks};
 use crate::header::ENTRY;
 use crate::header::HEADER;
@@ -150,22 +150,38 @@ fn occurrences(file: &[u8], kind: u64, n: u64, at: usize) -> u64
     seen
 }
 
-// The bytes of the first of the n sections from a position on that has the type.
-fn section_from(file: &[u8], kind: u64, n: u64, at: usize) -> &[u8]
+// The first of the n entries from a position on that has the type; where there is none, one that names no bytes.
+fn entry_from(file: &[u8], kind: u64, n: u64, at: usize) -> Entry
     requires { ⌜ at + entryBytes * n ≤ length (now file) ⌝ }
-    ensures { λ r. ⌜ now r ≡ sectionIn (now (file .entry)) kind (entriesFrom (now (file .entry)) n at) ⌝ }
+    ensures { λ r. ⌜ r ≡ entryOf kind (entriesFrom (now (file .entry)) n at) ⌝ }
 {
     let mut p = at;
     let mut left = n;
     while 0 < left {
         let e = entry_at(file, p);
         if e.kind == kind {
-            return wire::span(file, e.offset as usize, e.size as usize);
+            return e;
         }
         p += ENTRY;
         left -= 1;
     }
-    &file[..0]
+    Entry {
+        kind: 0,
+        flags: 0,
+        compression: 0,
+        algorithm: 0,
+        offset: 0,
+        size: 0,
+        digest: 0,
+    }
+}
+
+// The entry of a type.
+pub(crate) fn entry_of(file: &[u8], kind: u64) -> Entry
+    requires { ⌜ headerBytes + entryBytes * sectionCount (now file) ≤ length (now file) ⌝ }
+    ensures { λ r. ⌜ r ≡ entryOf kind (entries (now (file .entry))) ⌝ }
+{
+    entry_from(file, kind, section_count(file), HEADER)
 }
 
 // The bytes of the section of a type; the empty part where there is none.
@@ -173,7 +189,8 @@ pub fn section(file: &[u8], kind: u64) -> &[u8]
     requires { ⌜ headerBytes + entryBytes * sectionCount (now file) ≤ length (now file) ⌝ }
     ensures { λ r. ⌜ now r ≡ section (now (file .entry)) kind ⌝ }
 {
-    section_from(file, kind, section_count(file), HEADER)
+    let e = entry_of(file, kind);
+    wire::span(file, e.offset as usize, e.size as usize)
 }
 
 // 9: type 1 or 2 occurs more than once.

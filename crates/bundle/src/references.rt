@@ -40,13 +40,12 @@ fn reference_hash(m: &[u8], kind: Reference, at: usize) -> &[u8]
 fn lost_from(m: &[u8], kind: Reference, n: u64, at: usize, s: &[u8]) -> bool
     ensures { λ r. ⌜ r ≡ lacks (nodesOf (now (s .entry))) (hashesFrom (now (m .entry)) kind n at) ⌝ }
 {
-    let records = nodes::records::count(s);
     let mut p = at;
     let mut left = n;
     while 0 < left {
         match reference_end(m, kind, p) {
             Parsed::To(q) => {
-                if !nodes::find::has(s, reference_hash(m, kind, p), records, 8) {
+                if !nodes::find::has_record(s, reference_hash(m, kind, p)) {
                     return true;
                 }
                 p = q;

@@ -1,5 +1,5 @@
-// Checks each bundle of a folder whose name the input has, and writes the number that is answered, the names of its exports,
-// and what the index by name answers of three names.
+// Checks each bundle of a folder whose name the input has, and writes the number that is answered, the names of its exports
+// and where they start, and what the index by name answers of three names.
 ghost use Prim.Native.Nat.{_≤_};
 ghost use lib.ListN.{length};
 use bundle::exports::IndexAnswer;
@@ -25,10 +25,12 @@ fn hex(t: &[u8]) {
     }
 }
 
-// The line of an export: its index, and its name's length and bytes.
-fn show_name(i: u32, name: &[u8]) {
+// The line of an export: its index, and its name's place in the file, length and bytes.
+fn show_name(i: u32, start: usize, name: &[u8]) {
     text(b"  ");
     decimal(i as u64);
+    text(b" ");
+    decimal(start as u64);
     text(b" ");
     decimal(name.len() as u64);
     text(b" ");
@@ -38,11 +40,12 @@ fn show_name(i: u32, name: &[u8]) {
 
 // The line of the export with an index, if there is one.
 fn show_export(file: &[u8], i: u32) -> bool {
-    let name = bundle::exports::export_name(file, i);
-    if name.len() == 0 {
+    let part = bundle::exports::name_part(file, i);
+    if part.size == 0 {
         return false;
     }
-    show_name(i, name);
+    let start = part.start;
+    show_name(i, start, bundle::exports::export_name(file, i));
     true
 }
 

@@ -19,7 +19,7 @@ use Rattle.nodes.specs.Links.{linkOf, firstLink, secondLink, links, placedOf, c
 use Rattle.placing.specs.Placing.{settled, ready, earliest, put, placing, placed}
 use Rattle.bundle.specs.Header.{sectionCount, directoryOffset, tooLong, tooShort, otherMagic, otherMajor, noDirectory}
 use Rattle.bundle.specs.Directory.{entryAt, entriesFrom, entries, faulty as entryFaulty, someFaulty as someEntry}
-use Rattle.bundle.specs.Directory.{critical, coded, outside, altered, occurrences, repeated, missing, sectionIn, section}
+use Rattle.bundle.specs.Directory.{critical, coded, outside, altered, occurrences, repeated, missing, entryOf, section}
 use Rattle.bundle.specs.References.{rootHashes, exportHashes, unresolved}
 use Rattle.bundle.specs.Checks.{firstOf, headerChecks, directoryChecks, manifestChecks, nodeChecks, nameChecks, checks, refusal}
 use Rattle.soundness.specs.Sound.{Sound}
@@ -35,7 +35,7 @@ unfolding leafBundle cases bigEndian inside spanEnd span numberAt sameBytes hold
     someExport malformed unsupportedAt unsupported misnamedAt misnamed rootsOf exportsOf childrenOf payloadEnd recordEnd recordsEnd
     records count nodesOf shaped nodeHash hashes lacks recordFaulty someRecord linkOf firstLink secondLink links placedOf circular
     settled ready earliest put placing placed sectionCount directoryOffset tooLong tooShort otherMagic otherMajor noDirectory entryAt
-    entriesFrom entries critical coded outside altered entryFaulty someEntry occurrences repeated missing sectionIn section rootHashes exportHashes unresolved
+    entriesFrom entries critical coded outside altered entryFaulty someEntry occurrences repeated missing entryOf section rootHashes exportHashes unresolved
     firstOf headerChecks directoryChecks manifestChecks nodeChecks nameChecks checks refusal
 cases-hold = refl
 

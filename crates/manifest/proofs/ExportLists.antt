@@ -23,16 +23,6 @@ module _ {es : List Export} where
       unfolding names indexOf
       find-later h = rw (first, ← n, ← same, h)
 
-    -- the name by an index that is counted down, as i - k
-    module _ (i k : ℕ) where
-      pub name-here : k ≡ i → getD (names es) (i - k) [] ≡ e .name
-      unfolding names
-      name-here h = let m : i - k ≡ 0 = omega arith in rw (first, m)
-
-      pub name-later : k + 1 ≤ i → getD (names es) (i - k) [] ≡ getD (names rest) (i - (k + 1)) []
-      unfolding names
-      name-later h = let m : i - k ≡ suc (i - (k + 1)) = omega arith in rw (first, m)
-
     module _ (fault : Fault) {b : Bool} (test : b ≡ faulty fault e rest) where
       pub fault-here : b ≡ true → someFaulty fault es ≡ true
       unfolding someFaulty someOf
@@ -46,10 +36,6 @@ module _ {es : List Export} where
     pub find-none : (t : List ℕ) (i : ℕ) → indexOf t i (names es) ≡ Nothing
     unfolding names indexOf
     find-none t i = rw none
-
-    pub name-none : (i : ℕ) → getD (names es) i [] ≡ []
-    unfolding names
-    name-none i = rw none
 
     pub fault-none : (fault : Fault) → someFaulty fault es ≡ false
     unfolding someFaulty someOf

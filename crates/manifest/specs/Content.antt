@@ -50,6 +50,10 @@ rootsFrom s n at = listFrom (rootEnd s) (rootAt s) n at
 abbrev pub exportsFrom : List ℕ → ℕ → ℕ → List Export
 exportsFrom s n at = listFrom (exportEnd s) (exportAt s) n at
 
+-- the positions of n exports
+abbrev pub placesFrom : List ℕ → ℕ → ℕ → List Parsed
+placesFrom s n at = listFrom (exportEnd s) (λ p. To p) n at
+
 -- the count that stands at a position
 unfoldable pub countAt : List ℕ → ℕ → ℕ
 countAt s at = orZero (numberAt 4 s at)
@@ -60,6 +64,10 @@ rootsAt s at = onNumber (numberAt 4 s at) (λ n. rootsFrom s n (at + 4)) []
 
 unfoldable pub exportsAt : List ℕ → ℕ → List Export
 exportsAt s at = onNumber (numberAt 4 s at) (λ n. exportsFrom s n (at + 4)) []
+
+-- where each of those exports stands
+unfoldable pub placesAt : List ℕ → ℕ → List Parsed
+placesAt s at = onNumber (numberAt 4 s at) (λ n. placesFrom s n (at + 4)) []
 
 unfoldable pub names : List Export → List (List ℕ)
 names [] = []

@@ -8,7 +8,8 @@ use Rattle.wire.specs.Wire.{sameBytes, numberAt, indexOf, found, anyOf, someOf,
 use Rattle.wire.specs.declared.Found.{Found}
 use Rattle.wire.specs.declared.Found.the-variants.{Nothing}
 use Rattle.sizes.specs.Sizes.{within, nameSize}
-use Rattle.manifest_shape.specs.declared.parts.Parsed.the-variants.{To}
+use Rattle.manifest_shape.specs.declared.parts.Parsed.{Parsed}
+use Rattle.manifest_shape.specs.declared.parts.Parsed.the-variants.{To, Bad}
 use Rattle.manifest_shape.specs.declared.Layout.{Layout}
 use Rattle.manifest_shape.specs.declared.Manifest.{Manifest}
 use Rattle.manifest_shape.specs.declared.Manifest.the-variants.{Shape, Malformed}
@@ -16,7 +17,7 @@ use Rattle.manifest.specs.declared.strings.Walk.{Walk}
 use Rattle.manifest.specs.declared.exports.Fault.{Fault}
 use Rattle.manifest.specs.declared.exports.Fault.the-variants.{Abi, NameSize, NameTwice}
 use Rattle.manifest_shape.specs.Shape.{andThen, stringEnd, manifestOf}
-use Rattle.manifest.specs.Content.{Root, Export, textAt, countAt, rootsAt, exportsAt, names}
+use Rattle.manifest.specs.Content.{Root, Export, textAt, countAt, rootsAt, exportsAt, placesAt, names}
 
 -- what a string has to be
 pub data Wanted : Type 0 where
@@ -107,9 +108,9 @@ rootsOf s = onShape (manifestOf s) (λ l. rootsAt s (l .roots)) []
 unfoldable pub exportsOf : List ℕ → List Export
 exportsOf s = onShape (manifestOf s) (λ l. exportsAt s (l .exports)) []
 
--- the name of an export by its index, and the index of an export by its name
-unfoldable pub exportName : List ℕ → ℕ → List ℕ
-exportName s i = getD (names (exportsOf s)) i []
+-- where an export stands, by its index; and the index of an export by its name
+unfoldable pub exportPlace : List ℕ → ℕ → Parsed
+exportPlace s i = getD (onShape (manifestOf s) (λ l. placesAt s (l .exports)) []) i Bad
 
 unfoldable pub exportIndex : List ℕ → List ℕ → Found
 exportIndex s name = indexOf name 0 (names (exportsOf s))

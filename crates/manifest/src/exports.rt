@@ -1,10 +1,9 @@
-// The exports of a manifest: their faults, their names, and one by its name.
+// The exports of a manifest: their faults, one by its name, and where one stands.
 ghost use mathlib.Core.Path.{_≡_};
-ghost use mathlib.Core.List.{[]};
 ghost use lib.ListN.{getD};
 ghost use Rattle.wire.specs.Wire.{indexOf, found};
 ghost use Rattle.manifest_shape.specs.Shape.{andThen, stringEnd, rootEnd};
-ghost use Rattle.manifest.specs.Content.{textAt, exportAt, exportsFrom, exportsAt, names};
+ghost use Rattle.manifest.specs.Content.{textAt, exportAt, exportsFrom, exportsAt, placesFrom, placesAt, names};
 ghost use Rattle.manifest.specs.Judged.{faulty, someFaulty};
 use crate::content::text_at;
 use manifest_shape::parts::Parsed;
@@ -119,9 +118,9 @@ pub fn find(s: &[u8], name: &[u8], at: usize) -> Found
     }
 }
 
-// The name of the i-th of the n exports from a position on.
-fn name_from(s: &[u8], n: u64, at: usize, i: u64) -> &[u8]
-    ensures { λ r. ⌜ now r ≡ getD (names (exportsFrom (now (s .entry)) n at)) i [] ⌝ }
+// Where the i-th of the n exports from a position on stands.
+fn place_from(s: &[u8], n: u64, at: usize, i: u64) -> Parsed
+    ensures { λ r. ⌜ r ≡ getD (placesFrom (now (s .entry)) n at) i Parsed.Bad ⌝ }
 {
     let mut p = at;
     let mut k: u64 = 0;
@@ -129,25 +128,25 @@ fn name_from(s: &[u8], n: u64, at: usize, i: u64) -> &[u8]
         match export_end(s, p) {
             Parsed::To(q) => {
                 if k == i {
-                    return text_at(s, Parsed::To(p));
+                    return Parsed::To(p);
                 }
                 p = q;
             }
             Parsed::Bad => {
-                return &s[..0];
+                return Parsed::Bad;
             }
         }
         k += 1;
     }
-    &s[..0]
+    Parsed::Bad
 }
 
-// The name of the i-th of the exports behind their count at a position.
-pub fn name_at(s: &[u8], at: usize, i: u64) -> &[u8]
-    ensures { λ r. ⌜ now r ≡ getD (names (exportsAt (now (s .entry)) at)) i [] ⌝ }
+// Where the i-th of the exports behind their count at a position stands.
+pub fn place_at(s: &[u8], at: usize, i: u64) -> Parsed
+    ensures { λ r. ⌜ r ≡ getD (placesAt (now (s .entry)) at) i Parsed.Bad ⌝ }
 {
     match wire::u32_at(s, at) {
-        Num::Value(n) => name_from(s, n, at + 4, i),
-        Num::Short => &s[..0],
+        Num::Value(n) => place_from(s, n, at + 4, i),
+        Num::Short => Parsed::Bad,
     }
 }

@@ -1,15 +1,16 @@
 // What stands in a manifest: its strings, its exports; what is refused of it (13 and 14), and exports by index and by name.
 ghost use mathlib.Core.Path.{_≡_};
 ghost use Rattle.manifest_shape.specs.Shape.{manifestOf};
-ghost use Rattle.manifest.specs.Judged.{unsupportedAt, misnamedAt, exportName, exportIndex};
+ghost use Rattle.manifest.specs.Judged.{unsupportedAt, misnamedAt, exportPlace, exportIndex};
 use crate::content::count_at;
 use crate::exports::Fault;
 use crate::exports::find;
-use crate::exports::name_at;
+use crate::exports::place_at;
 use crate::exports::some_faulty;
 use crate::strings::strings_agree;
 use manifest_shape::Layout;
 use manifest_shape::Manifest;
+use manifest_shape::parts::Parsed;
 use manifest_shape::read;
 use wire::Found;
 
@@ -48,16 +49,16 @@ pub fn misnamed(s: &[u8], l: Layout) -> bool
     some_faulty(s, Fault::NameTwice, exports)
 }
 
-// The name of the export with an index, as the part of the section that is the name; the empty part where there is none.
-pub fn export_name(s: &[u8], i: u64) -> &[u8]
-    ensures { λ r. ⌜ now r ≡ exportName (now (s .entry)) i ⌝ }
+// Where the export with an index stands; its name stands first in it.
+pub fn export_place(s: &[u8], i: u64) -> Parsed
+    ensures { λ r. ⌜ r ≡ exportPlace (now (s .entry)) i ⌝ }
 {
     match read(s) {
         Manifest::Shape(l) => {
             let exports = l.exports;
-            name_at(s, exports, i)
+            place_at(s, exports, i)
         }
-        Manifest::Malformed => &s[..0],
+        Manifest::Malformed => Parsed::Bad,
     }
 }
 

@@ -1,7 +1,8 @@
 // Finding a record by its hash.
 ghost use mathlib.Core.Path.{_≡_};
 ghost use Rattle.wire.specs.Wire.{indexOf, found};
-ghost use Rattle.nodes.specs.Records.{records, hashes};
+ghost use Rattle.nodes.specs.Records.{records, nodesOf, hashes};
+use crate::records::count;
 use crate::records::record_end;
 use wire::Found;
 use wire::Pos;
@@ -30,11 +31,18 @@ pub fn find(s: &[u8], h: &[u8], n: u64, at: usize) -> Found
 }
 
 // Whether one of the n records from a position on has the hash.
-pub fn has(s: &[u8], h: &[u8], n: u64, at: usize) -> bool
+pub(crate) fn has(s: &[u8], h: &[u8], n: u64, at: usize) -> bool
     ensures { λ r. ⌜ r ≡ found (indexOf (now (h .entry)) 0 (hashes (records (now (s .entry)) n at))) ⌝ }
 {
     match find(s, h, n, at) {
         Found::Index(_) => true,
         Found::Nothing => false,
     }
+}
+
+// Whether a record of the section has the hash.
+pub fn has_record(s: &[u8], h: &[u8]) -> bool
+    ensures { λ r. ⌜ r ≡ found (indexOf (now (h .entry)) 0 (hashes (nodesOf (now (s .entry))))) ⌝ }
+{
+    has(s, h, count(s), 8)
 }

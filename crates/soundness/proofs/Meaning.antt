@@ -16,15 +16,15 @@ use Rattle.soundness.proofs.NodesMeaning.{one-tree-each as one-tree-of}
 use Rattle.bundle.specs.Directory.{manifestSection}
 use Rattle.bundle.specs.Checks.{headerChecks, directoryChecks, manifestChecks, nodeChecks, nameChecks, checks}
 use Rattle.bundle.specs.Checks.{nameRefusal, refusal}
-use Rattle.bundle.specs.Exports.{nameCall, indexAsked, indexCall, answerOf, numbers}
+use Rattle.bundle.specs.Exports.{namePart, indexAsked, indexCall, answerOf, numbers}
 use Rattle.soundness.specs.Sound.{Described, Sound}
 use Rattle.soundness.specs.Meaning.{DescribedExactly, AcceptedExactly, RefusedByLowest, OneTreeEach, NameByIndex, IndexByName}
-use Rattle.soundness.specs.Meaning.{NoSuchName, EmptyName, NamesRefused}
+use Rattle.soundness.specs.Meaning.{NameInFile, NoSuchName, EmptyName, NamesRefused}
 use Rattle.bundle.proofs.Rows.{Ascends, clear-first, first-clear}
 use Rattle.soundness.proofs.Lowest.{first-lowest}
 use Rattle.soundness.proofs.Each.{each-exactly}
 use Rattle.soundness.proofs.File.{few-nodes, clear-described, clear-sound, described-clear, sound-clear}
-use Rattle.soundness.proofs.Calls.{names-length, found-there, name-read, index-asked, asked-name}
+use Rattle.soundness.proofs.Calls.{names-length, found-there, name-read, part-inside, index-asked, asked-name}
 
 -- the numbers of the rows ascend
 names-ascend : (file : List ℕ) → Ascends 0 (nameChecks file)
@@ -81,6 +81,9 @@ module _ (file : List ℕ) (d : Described file) where
 pub name-by-index : NameByIndex
 name-by-index file d i = name-read file (fine file d) i ∙ rw (read file d)
 
+pub name-in-file : NameInFile
+name-in-file = part-inside
+
 pub index-by-name : IndexByName
 index-by-name file d i h =
     let ns = names (d .manifest .exports) in
@@ -98,5 +101,5 @@ unfolding indexAsked
 empty-name file d = ap numbers (index-asked file (fine file d) [])
 
 pub names-refused : NamesRefused
-unfolding nameCall indexCall
+unfolding namePart indexCall
 names-refused file n = (λ i. rw (ne-eqb (nameRefusal file) 0 n), λ name. rw (ne-eqb (nameRefusal file) 0 n))

@@ -1,5 +1,5 @@
 -- What the answers of the checks and of the export calls mean. The proofs are in proofs/Meaning.antt.
-use Prim.Native.Nat.{ℕ, _<_}
+use Prim.Native.Nat.{ℕ, _+_, _≤_, _<_}
 use mathlib.Core.Path.{_≡_}
 use mathlib.Core.Bool.{true, false}
 use mathlib.Core.Logic.{_↔_, _⊎_}
@@ -11,7 +11,7 @@ use Rattle.manifest.specs.Content.{names}
 use Rattle.nodes.specs.Records.{Node}
 use Rattle.soundness.specs.Graph.{Names}
 use Rattle.bundle.specs.Checks.{Check, nameChecks, checks, nameRefusal, refusal}
-use Rattle.bundle.specs.Exports.{nameCall, indexCall, numbers}
+use Rattle.bundle.specs.Exports.{emptyPart, namePart, nameCall, indexCall, numbers}
 use Rattle.soundness.specs.Sound.{Described, Sound}
 
 -- the checks 1 to 14 answer 0 exactly for a described file, the checks 1 to 20 exactly for a sound one
@@ -47,6 +47,10 @@ abbrev pub NameByIndex : Type 0
 NameByIndex =
     (file : List ℕ) (d : Described file) (i : ℕ) → nameCall file i ≡ getD (names (d .manifest .exports)) i []
 
+-- the part that a name by index is lies in the file, whatever the file
+abbrev pub NameInFile : Type 0
+NameInFile = (file : List ℕ) (i : ℕ) → namePart file i .start + namePart file i .size ≤ length file
+
 -- the index by name is that of the export with that name; with no such name it is 25; the empty name is the first export
 abbrev pub IndexByName : Type 0
 IndexByName =
@@ -65,5 +69,5 @@ EmptyName = (file : List ℕ) → Described file → numbers (indexCall file [])
 abbrev pub NamesRefused : Type 0
 NamesRefused =
     (file : List ℕ) → (nameRefusal file ≡ 0 → ⊥) →
-    ((i : ℕ) → nameCall file i ≡ []) ×
+    ((i : ℕ) → namePart file i ≡ emptyPart) ×
     ((name : List ℕ) → numbers (indexCall file name) ≡ record { number = nameRefusal file; index = 0 })

@@ -1,12 +1,12 @@
 -- Laws of a part of a list of bytes: its length, and that it is bytes.
-use Prim.Native.Nat.{ℕ, _+_, _-_, _≤_, _<_}
-use mathlib.Core.Path.{_≡_}
-use mathlib.Core.List.{List}
+use Prim.Native.Nat.{ℕ, zero, suc, _+_, _-_, _≤_, _<_}
+use mathlib.Core.Path.{_≡_, refl}
+use mathlib.Core.List.{List, [], _∷_}
 use native.Mathlib.Nat.{add-sub-cancel-left}
 use native.Mathlib.Omega.{arith}
 use native.Mathlib.Decide.{decLt}
 use lib.ListN.{length, getD, take, drop, length-take, length-drop, List·getD-eq-default}
-use lib.Seq.{getD-take, getD-drop}
+use lib.Seq.{getD-take, getD-drop, take-take}
 
 -- every element of a list is a byte; past its end stands 0
 -- (of a slice s, λ i. c .shared-slice-known .given i .fits says so)
@@ -26,3 +26,10 @@ module _ (s : List ℕ) (at n : ℕ) where
     | yes k ↦ rw (getD-take, getD-drop) (b (at + i))
     | no k ↦ rw (List·getD-eq-default (take n (drop at s)) 0 {n = i} (rw length-take (omega (arith, k)))) (omega arith)
   ]
+
+-- a part of a list's beginning is a part of the list
+pub part-front : (s : List ℕ) (z at n : ℕ) → at + n ≤ z → take n (drop at (take z s)) ≡ take n (drop at s)
+part-front s z zero n h = take-take n z s (omega arith)
+part-front s zero (suc at) n h = absurd (omega arith)
+part-front [] (suc z) (suc at) n h = refl
+part-front (x ∷ s) (suc z) (suc at) n h = part-front s z at n (omega arith)

@@ -8,12 +8,13 @@ use native.Mathlib.Decide.{decLe}
 use borrow.Author.Tests.{le-leb, lt-leb, leb-true, leb-false}
 use lib.Dec.{leb}
 use lib.ListN.{length, take, drop}
+use lib.Seq.{drop-drop}
 use Rattle.wire.specs.Wire.{bigEndian, inside, spanEnd, span, numberAt}
 use Rattle.wire.specs.declared.Num.{Num}
 use Rattle.wire.specs.declared.Num.the-variants.{Value, Short}
 use Rattle.wire.specs.declared.Pos.{Pos}
 use Rattle.wire.specs.declared.Pos.the-variants.{At, Past}
-use Rattle.wire.proofs.Parts.{AreBytes, part-length, part-lent}
+use Rattle.wire.proofs.Parts.{AreBytes, part-length, part-lent, part-front}
 use Rattle.wire.proofs.Numbers.{part-bound}
 
 module _ (s : List ℕ) (start n : ℕ) where
@@ -101,3 +102,16 @@ module _ (s : List ℕ) (start n : ℕ) where
   -- the span that lies in s is as long as it says
   pub span-length : start + n ≤ length s → length (span s start n) ≡ n
   span-length h = rw (← (span-in h)) (part-length s start n h)
+
+-- a span of a span
+pub span-within : (s : List ℕ) (start size at n : ℕ) → start + size ≤ length s → at + n ≤ size →
+    span (span s start size) at n ≡ span s (start + at) n
+span-within s start size at n h k =
+    let inner : at + n ≤ length (span s start size) = rw (span-length s start size h) k in
+    sym (span-in (span s start size) at n inner) ∙
+    rw (← (span-in s start size h), part-front (drop start s) size at n k, drop-drop at start s)
+    (span-in s (start + at) n (omega arith))
+
+-- and one of no bytes
+pub span-none : (s : List ℕ) → span s 0 0 ≡ []
+span-none s = sym (span-in s 0 0 (omega arith))

@@ -10,14 +10,11 @@ use Rattle.bundle.proofs.references.lost_from.Statement.{statement}
 use Rattle.bundle.proofs.references.lost_from.Tie as tie
 
 abbrev Inv-loop : tie.InvT-loop
-Inv-loop m kind n at s records p₀ left₀ p left =
+Inv-loop m kind n at s p₀ left₀ p left =
     lacks (nodesOf s) (hashesFrom m kind n at) ≡ lacks (nodesOf s) (hashesFrom m kind left p)
 
 abbrev μ-loop : tie.MeasureT-loop
-μ-loop m kind n at s records p₀ left₀ p left = left
-
-count-requires : tie.Need-count-requires Inv-loop μ-loop
-count-requires c κs = search needs
+μ-loop m kind n at s p₀ left₀ p left = left
 
 loop-holds : tie.Need-loop-holds Inv-loop μ-loop
 loop-holds c = refl
@@ -31,8 +28,8 @@ enum-known-q c = search needs
 reference-hash-requires : tie.Need-reference-hash-requires Inv-loop μ-loop
 reference-hash-requires c κs = search needs
 
-has-requires : tie.Need-has-requires Inv-loop μ-loop
-has-requires c κs = search needs
+has-record-requires : tie.Need-has-record-requires Inv-loop μ-loop
+has-record-requires c κs = search needs
 
 returns : tie.Need-returns Inv-loop μ-loop
 returns c =
@@ -42,7 +39,7 @@ returns c =
     sym
     (turn .loop .inv
     ∙ lost-here _ _ _ _ _ (omega arith) (end .reference-end .ensures) (hash .before .before .q .given .1)
-    (turn .before .count .ensures) (hash .reference-hash .ensures) (c .before .has .ensures) (not-true _ (c .if1 .taken)))
+    (hash .reference-hash .ensures) (c .before .has-record .ensures) (not-true _ (c .if1 .taken)))
 
 enum-told : tie.Need-enum-told Inv-loop μ-loop
 enum-told c = search needs
@@ -67,7 +64,7 @@ loop-again c =
     let turn = end .before .before in
     turn .loop .inv
     ∙ lost-next _ _ _ _ _ (omega arith) (end .reference-end .ensures) (hash .before .before .q .given .1)
-    (turn .before .count .ensures) (hash .reference-hash .ensures) (c .before .has .ensures) (not-false _ (c .if1 .left))
+    (hash .reference-hash .ensures) (c .before .has-record .ensures) (not-false _ (c .if1 .left))
 
 returns-3 : tie.Need-returns-3 Inv-loop μ-loop
 returns-3 c = sym (c .before .loop .inv ∙ lost-end _ _ _ _ _ (omega arith))
@@ -78,12 +75,11 @@ lost-from-spec =
     (tie.spec
     Inv-loop
     μ-loop
-    count-requires
     loop-holds
     reference-end-requires
     enum-known-q
     reference-hash-requires
-    has-requires
+    has-record-requires
     returns
     enum-told
     returns-2
