@@ -6,6 +6,8 @@ use mathlib.Core.List.{List, [], _∷_, _++_}
 use mathlib.Core.Bool.{Bool, true, false}
 use native.Mathlib.Omega.{arith}
 use lib.ListN.{length}
+use Rattle.nodes.specs.Records.{nodesOf}
+use Rattle.nodes.specs.Links.{Placing}
 use Rattle.bundle.specs.Header.{headerBytes, entryBytes, sectionCount}
 use Rattle.bundle.specs.Directory.{entries, entryOf, manifestSection, nodesSection}
 use Rattle.bundle.specs.Checks.{Check, firstOf, headerChecks, directoryChecks, manifestChecks, nodeChecks}
@@ -90,3 +92,7 @@ module _ (file : List ℕ) where
       k ≡ firstOf (nodeChecks m s) → k ≡ refusal file
   unfolding refusal checks
   by-nodes e z f g h = rw (clear-joined (nameChecks file) _ (names-clear e z), ← f, ← g) h
+
+-- the records that are placed are those of the nodes section; s stands for it, as the call answered it
+pub placed-nodes : {s t links slots : List ℕ} → s ≡ t → Placing (nodesOf s) links slots → Placing (nodesOf t) links slots
+placed-nodes e h = rw (← e) h

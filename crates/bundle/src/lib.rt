@@ -1,5 +1,8 @@
 // Checks a bundle: the refusals 1 to 20 of document 01, in their order, and the two calls on exports.
 ghost use mathlib.Core.Path.{_≡_};
+ghost use Rattle.nodes.specs.Records.{nodesOf};
+ghost use Rattle.nodes.specs.Links.{Scratch, Placing};
+ghost use Rattle.bundle.specs.Directory.{nodesSection};
 ghost use Rattle.bundle.specs.Checks.{firstOf, manifestChecks, nodeChecks, nameRefusal, refusal};
 use crate::directory::MANIFEST;
 use crate::directory::NODES;
@@ -13,7 +16,7 @@ use nodes::faults::Fault;
 pub mod directory;
 pub mod exports;
 mod header;
-mod references;
+pub mod references;
 
 // 12 to 14, of a manifest section.
 fn check_manifest(m: &[u8]) -> u32
@@ -33,9 +36,11 @@ fn check_manifest(m: &[u8]) -> u32
     }
 }
 
-// 15 to 20, of a manifest section and a nodes section.
-fn check_nodes(m: &[u8], s: &[u8]) -> u32
-    ensures { λ r. ⌜ r ≡ firstOf (nodeChecks (now (m .entry)) (now (s .entry))) ⌝ }
+// 15 to 20, of a manifest section and a nodes section. Where none holds, it leaves the links of the records and their slots.
+fn check_nodes(m: &[u8], s: &[u8], links: &mut [u32], slots: &mut [u32]) -> u32
+    requires { ⌜ Scratch (now links) (now slots) ⌝ }
+    ensures { λ r. ⌜ (r ≡ firstOf (nodeChecks (now (m .entry)) (now (s .entry))))
+        × (r ≡ 0 → Placing (nodesOf (now (s .entry))) (now (links .exit)) (now (slots .exit))) ⌝ }
 {
     if !nodes::records::shaped(s) {
         return 15;
@@ -49,7 +54,7 @@ fn check_nodes(m: &[u8], s: &[u8]) -> u32
     if nodes::faults::some_faulty(s, Fault::Child) {
         return 18;
     }
-    if nodes::links::circular(s) {
+    if nodes::links::circular(s, links, slots) {
         return 19;
     }
     if unresolved(m, s) {
@@ -73,13 +78,24 @@ pub fn check_names(file: &[u8]) -> u32
     check_manifest(section(file, MANIFEST))
 }
 
-// 1 to 20: the number of the first check that holds, or 0 for a sound bundle.
-pub fn check(file: &[u8]) -> u32
-    ensures { λ r. ⌜ r ≡ refusal (now (file .entry)) ⌝ }
+// 1 to 20, and for a sound bundle the links of its records and their slots, which the load writes from.
+pub fn check_and_place(file: &[u8], links: &mut [u32], slots: &mut [u32]) -> u32
+    requires { ⌜ Scratch (now links) (now slots) ⌝ }
+    ensures { λ r. ⌜ (r ≡ refusal (now (file .entry)))
+        × (r ≡ 0 → Placing (nodesOf (nodesSection (now (file .entry)))) (now (links .exit)) (now (slots .exit))) ⌝ }
 {
     let names = check_names(file);
     if names != 0 {
         return names;
     }
-    check_nodes(section(file, MANIFEST), section(file, NODES))
+    check_nodes(section(file, MANIFEST), section(file, NODES), links, slots)
+}
+
+// 1 to 20: the number of the first check that holds, or 0 for a sound bundle.
+pub fn check(file: &[u8]) -> u32
+    ensures { λ r. ⌜ r ≡ refusal (now (file .entry)) ⌝ }
+{
+    let mut links: [u32; 1024] = [0; 1024];
+    let mut slots: [u32; 512] = [0; 512];
+    check_and_place(file, &mut links, &mut slots)
 }

@@ -17,7 +17,7 @@ pub enum Reference {
 }
 
 // Where the root or export at a position ends.
-fn reference_end(m: &[u8], kind: Reference, at: usize) -> Parsed
+pub fn reference_end(m: &[u8], kind: Reference, at: usize) -> Parsed
     ensures { λ r. ⌜ r ≡ referenceEnd (now (m .entry)) kind at ⌝ }
 {
     match kind {
@@ -27,7 +27,7 @@ fn reference_end(m: &[u8], kind: Reference, at: usize) -> Parsed
 }
 
 // The hash that it names.
-fn reference_hash(m: &[u8], kind: Reference, at: usize) -> &[u8]
+pub fn reference_hash(m: &[u8], kind: Reference, at: usize) -> &[u8]
     ensures { λ r. ⌜ now r ≡ referenceHash (now (m .entry)) kind at ⌝ }
 {
     match kind {

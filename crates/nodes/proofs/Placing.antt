@@ -1,12 +1,12 @@
 -- Laws of placing a section's records: what the shape says of their number, what placing is lent, what its count tells.
-use Prim.Native.Nat.{ℕ, _-_, _*_}
+use Prim.Native.Nat.{ℕ, _-_, _*_, _≤_}
 use mathlib.Core.Path.{_≡_, refl, ap, _∙_, subst}
 use mathlib.Core.List.{List, _++_}
 use mathlib.Core.Bool.{Bool, true, false, cond}
 use native.Mathlib.Nat.{sub-zero}
 use native.Mathlib.Omega.{arith}
 use lib.Dec.{ltb}
-use lib.ListN.{length, take, replicate, length-replicate}
+use lib.ListN.{length, take, replicate, length-replicate, length-append}
 use lib.Seq.{take-at}
 use Rattle.wire.specs.Wire.{numberAt, orZero, onNumber}
 use Rattle.wire.specs.declared.Num.{Num}
@@ -16,9 +16,9 @@ use Rattle.wire.specs.declared.Pos.the-variants.{At, Past}
 use Rattle.wire.proofs.Bytes.{not-both}
 use Rattle.sizes.specs.Sizes.{within, nodesSize}
 use Rattle.sizes.proofs.Within.{within-exactly}
-use Rattle.placing.specs.Placing.{Links, placing, placed}
+use Rattle.placing.specs.Placing.{Placed, Links, placing, placed}
 use Rattle.nodes.specs.Records.{recordsEnd, records, count, nodesOf, endsAt, shaped}
-use Rattle.nodes.specs.Links.{linksOf, placedOf, circular, Sized}
+use Rattle.nodes.specs.Links.{linksOf, placedOf, circular, Sized, Placing}
 use Rattle.nodes.proofs.Children.{links-length, links-ok}
 use Rattle.nodes.proofs.Walks.{records-all}
 
@@ -68,3 +68,23 @@ module _ (s : List ℕ) (n : ℕ) (size : Sized s n) where
       ltb r n ≡ circular (nodesOf s)
   unfolding circular nodesOf
   circular-is e g = rw (← e, size .all, ← g)
+
+  pub links-space : (out old : List ℕ) → out ≡ linksOf (records s n 8) ++ old → 2 * n ≤ length out
+  links-space out old e =
+      let l = links-length (records s n 8) (records s n 8) in
+      let a = length-append (linksOf (records s n 8)) old in
+      rw e (omega (arith, size .all))
+
+  -- the tables that are left
+  pub placing-left : n ≡ count s → (links old : List ℕ) → links ≡ linksOf (records s n 8) ++ old →
+      {slots : List ℕ} {r : ℕ} → record { slots = slots; count = r } ≡ placedOf (records s n 8) →
+      Placing (nodesOf s) links slots
+  unfolding nodesOf
+  placing-left e links old g h =
+      rw (← e)
+      record {
+        few = omega (arith, size .all, size .few);
+        space = omega (arith, size .all, links-space links old g);
+        links-are = rw (size .all) (links-lent links old g);
+        slots-are = ap (λ (p : Placed). p .slots) h;
+      }

@@ -3,7 +3,7 @@ use Prim.Native.Nat.{ℕ, _+_, _*_, _≤_}
 use mathlib.Core.Path.{_≡_}
 use mathlib.Core.List.{List, [], _∷_}
 use mathlib.Core.Bool.{Bool}
-use lib.ListN.{length}
+use lib.ListN.{length, take, replicate}
 use lib.Dec.{ltb}
 use Rattle.wire.specs.Wire.{indexOf}
 use Rattle.wire.specs.declared.Found.{Found}
@@ -49,3 +49,15 @@ circular rs = ltb (placedOf rs .count) (length rs)
 pub record Sized (s : List ℕ) (n : ℕ) : Type 0 where
   pub all : length (records s n 8) ≡ n
   pub few : n ≤ nodesSize .most
+
+-- the tables that placing is lent: room for the links of as many records as there may be, and for their slots, none placed
+pub record Scratch (links slots : List ℕ) : Type 0 where
+  pub space : 2 * nodesSize .most ≤ length links
+  pub unplaced : slots ≡ replicate (nodesSize .most) 0
+
+-- the tables that it leaves: the links of the records, and the slots that they got
+pub record Placing (rs : List Node) (links slots : List ℕ) : Type 0 where
+  pub few : length rs ≤ nodesSize .most
+  pub space : 2 * length rs ≤ length links
+  pub links-are : take (2 * length rs) links ≡ linksOf rs
+  pub slots-are : slots ≡ placedOf rs .slots

@@ -46,3 +46,10 @@ pub fn has_record(s: &[u8], h: &[u8]) -> bool
 {
     has(s, h, count(s), 8)
 }
+
+// The number of the record of the section that has the hash.
+pub fn find_record(s: &[u8], h: &[u8]) -> Found
+    ensures { λ r. ⌜ r ≡ indexOf (now (h .entry)) 0 (hashes (nodesOf (now (s .entry)))) ⌝ }
+{
+    find(s, h, count(s), 8)
+}

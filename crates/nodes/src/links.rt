@@ -7,7 +7,7 @@ ghost use lib.ListN.{length, drop, take, replicate};
 ghost use Rattle.sizes.specs.Sizes.{nodesSize};
 ghost use Rattle.placing.specs.Placing.{Placed};
 ghost use Rattle.nodes.specs.Records.{childrenOf, records, nodesOf, shaped};
-ghost use Rattle.nodes.specs.Links.{linkOf, firstLink, secondLink, linksOf, placedOf, circular, Sized};
+ghost use Rattle.nodes.specs.Links.{linkOf, firstLink, secondLink, linksOf, placedOf, circular, Sized, Scratch, Placing};
 use crate::find::find;
 use crate::records::count;
 use crate::records::record_end;
@@ -88,14 +88,13 @@ pub fn place(s: &[u8], n: u64, links: &[u32], slots: &mut [u32]) -> usize
     placing::place(&links[0..end], total, slots)
 }
 
-// 19, of a section that has the stated shape: placing stops short.
-pub fn circular(s: &[u8]) -> bool
-    requires { ⌜ shaped (now s) ≡ true ⌝ }
-    ensures { λ r. ⌜ r ≡ circular (nodesOf (now (s .entry))) ⌝ }
+// 19, of a section that has the stated shape: placing stops short. Leaves the links of the records and the slots that they got.
+pub fn circular(s: &[u8], links: &mut [u32], slots: &mut [u32]) -> bool
+    requires { ⌜ (shaped (now s) ≡ true) × Scratch (now links) (now slots) ⌝ }
+    ensures { λ r. ⌜ (r ≡ circular (nodesOf (now (s .entry))))
+        × Placing (nodesOf (now (s .entry))) (now (links .exit)) (now (slots .exit)) ⌝ }
 {
     let n = count(s);
-    let mut links: [u32; 1024] = [0; 1024];
-    let mut slots: [u32; 512] = [0; 512];
-    fill_links(s, n, &mut links);
-    place(s, n, &links, &mut slots) < n as usize
+    fill_links(s, n, links);
+    place(s, n, links, slots) < n as usize
 }

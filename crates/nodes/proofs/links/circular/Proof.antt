@@ -1,48 +1,45 @@
 -- The shape says how many records there are; their links are filled in, and placing counts.
-use mathlib.Core.Path.{refl}
 use native.Mathlib.Omega.{arith}
 use borrow.Author.Needs.{needs}
-use Rattle.nodes.proofs.Placing.{shaped-sized, links-lent, circular-is}
+use Rattle.nodes.proofs.Placing.{shaped-sized, links-lent, links-space, circular-is, placing-left}
 use Rattle.nodes.proofs.links.circular.Statement.{statement}
 use Rattle.nodes.proofs.links.circular.Tie as tie
 
 count-requires : tie.Need-count-requires
 count-requires c κs = search needs
 
-slice-aggregate-fill-links : tie.Need-slice-aggregate-fill-links
-slice-aggregate-fill-links c = search needs
-
 fill-links-requires : tie.Need-fill-links-requires
 fill-links-requires c κs =
-    let size = shaped-sized _ (c .before .count .ensures) (c .before .before .before .pre) in
-    (size, omega (arith, size .few))
-
-slice-aggregate-place : tie.Need-slice-aggregate-place
-slice-aggregate-place c = search needs
-
-slice-aggregate-place-2 : tie.Need-slice-aggregate-place-2
-slice-aggregate-place-2 c = search needs
+    let lent = c .before .before .before .before .before .pre in
+    let size = shaped-sized _ (c .before .count .ensures) (lent .0) in
+    (size, omega (arith, size .few, lent .1 .space))
 
 place-requires : tie.Need-place-requires
 place-requires c κs =
-    let e = c .before .before .before .before .before in
-    let size = shaped-sized _ (e .count .ensures) (e .before .before .pre) in
-    (size, links-lent _ _ size _ _ (c .before .before .before .fill-links .ensures), omega (arith, size .few), refl)
+    let counted = c .before .before .before .before .before .before in
+    let filled = c .before .before .before .before in
+    let lent = counted .before .before .before .before .pre in
+    let size = shaped-sized _ (counted .count .ensures) (lent .0) in
+    let links = filled .fill-links .ensures in
+    (size, links-lent _ _ size _ _ links, links-space _ _ size _ _ links, lent .1 .unplaced)
+
+same-length : tie.Need-same-length
+same-length c = search needs
+
+same-length-2 : tie.Need-same-length-2
+same-length-2 c = search needs
 
 returns : tie.Need-returns
 returns c =
-    let e = c .before .before .before .before .before .before .before in
-    let size = shaped-sized _ (e .count .ensures) (e .before .before .pre) in
-    circular-is _ _ size (e .count .ensures) (c .before .place .ensures)
+    let counted = c .before .before .before .before .before .before .before .before .before in
+    let size = shaped-sized _ (counted .count .ensures) (counted .before .before .before .before .pre .0) in
+    let filled = c .before .before .before .before .before .before .before in
+    let placed = c .before .before in (
+      circular-is _ _ size (counted .count .ensures) (placed .place .ensures),
+      placing-left _ _ size (counted .count .ensures) _ _ (filled .fill-links .ensures) (placed .place .ensures),
+    )
 
 pub circular-spec : {M : Type 1} → statement M
 circular-spec =
     tie.close
-    (tie.spec
-    count-requires
-    slice-aggregate-fill-links
-    fill-links-requires
-    slice-aggregate-place
-    slice-aggregate-place-2
-    place-requires
-    returns)
+    (tie.spec count-requires fill-links-requires place-requires same-length same-length-2 returns)
