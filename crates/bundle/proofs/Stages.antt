@@ -6,8 +6,11 @@ use mathlib.Core.List.{List, [], _∷_, _++_}
 use mathlib.Core.Bool.{Bool, true, false}
 use native.Mathlib.Omega.{arith}
 use lib.ListN.{length}
-use Rattle.nodes.specs.Records.{nodesOf}
-use Rattle.nodes.specs.Links.{Placing}
+use borrow.Author.Tests.{not-false}
+use Rattle.manifest.specs.Judged.{malformed}
+use Rattle.nodes.specs.declared.faults.Fault.the-variants.{Child}
+use Rattle.nodes.specs.Records.{shaped, nodesOf, someFaulty}
+use Rattle.nodes.specs.Links.{circular, Placing}
 use Rattle.bundle.specs.Header.{headerBytes, entryBytes, sectionCount}
 use Rattle.bundle.specs.Directory.{entries, entryOf, manifestSection, nodesSection}
 use Rattle.bundle.specs.Checks.{Check, firstOf, headerChecks, directoryChecks, manifestChecks, nodeChecks}
@@ -17,7 +20,7 @@ use Rattle.bundle.proofs.HeaderLaws.{directory-exactly}
 use Rattle.bundle.proofs.Entries.{section-inside}
 
 -- two tables, one behind the other; k stands for the answer of the first
-first-found : (cs ds : List Check) {k : ℕ} → k ≡ firstOf cs → (k ≡ 0 → ⊥) → k ≡ firstOf (cs ++ ds)
+pub first-found : (cs ds : List Check) {k : ℕ} → k ≡ firstOf cs → (k ≡ 0 → ⊥) → k ≡ firstOf (cs ++ ds)
 unfolding firstOf
 first-found [] ds e n = absurd (n e)
 first-found (c ∷ cs) ds {k} e n = test (c .holds) refl (first-found cs ds)
@@ -27,7 +30,7 @@ first-found (c ∷ cs) ds {k} e n = test (c .holds) refl (first-found cs ds)
     test true q rest = rw q (rw q at e)
     test false q rest = rw q (rest (rw q at e) n)
 
-clear-joined : (cs ds : List Check) → Clear cs → firstOf (cs ++ ds) ≡ firstOf ds
+pub clear-joined : (cs ds : List Check) → Clear cs → firstOf (cs ++ ds) ≡ firstOf ds
 unfolding firstOf
 clear-joined [] ds h = refl
 clear-joined (c ∷ cs) ds h = rw (h .0) (clear-joined cs ds (h .1))
@@ -55,17 +58,22 @@ module _ (file : List ℕ) where
       headerBytes + entryBytes * sectionCount file ≤ length file
   header-inside e z = clear-inside (header-clear e z)
 
-  pub names-inside : {n : ℕ} → n ≡ nameRefusal file → n ≡ 0 → headerBytes + entryBytes * sectionCount file ≤ length file
+  names-parts : Clear (nameChecks file) →
+      Clear (headerChecks file) × Clear (directoryChecks file) × Clear (manifestChecks (manifestSection file))
   unfolding nameChecks
-  names-inside e z = clear-inside (clear-parts (headerChecks file) _ .0 (names-clear e z) .0)
+  names-parts h =
+      let (header, rest) = clear-parts (headerChecks file) _ .0 h in
+      let (directory, manifest) = clear-parts (directoryChecks file) (manifestChecks (manifestSection file)) .0 rest in
+      (header, directory, manifest)
+
+  pub names-inside : {n : ℕ} → n ≡ nameRefusal file → n ≡ 0 → headerBytes + entryBytes * sectionCount file ≤ length file
+  names-inside e z = clear-inside (names-parts (names-clear e z) .0)
 
   -- the section of a type lies in the file
   pub names-section : {n : ℕ} → n ≡ nameRefusal file → n ≡ 0 → (kind : ℕ) →
       entryOf kind (entries file) .offset + entryOf kind (entries file) .size ≤ length file
-  unfolding nameChecks directoryChecks
-  names-section e z kind =
-      let rest = clear-parts (headerChecks file) _ .0 (names-clear e z) .1 in
-      section-inside file kind (entries file) (clear-parts (directoryChecks file) (manifestChecks (manifestSection file)) .0 rest .0 .1 .1 .0)
+  unfolding directoryChecks
+  names-section e z kind = section-inside file kind (entries file) (names-parts (names-clear e z) .1 .1 .1 .0)
 
   -- who answers
   pub by-header : {h : ℕ} → h ≡ firstOf (headerChecks file) → (h ≡ 0 → ⊥) → h ≡ nameRefusal file
@@ -92,6 +100,37 @@ module _ (file : List ℕ) where
       k ≡ firstOf (nodeChecks m s) → k ≡ refusal file
   unfolding refusal checks
   by-nodes e z f g h = rw (clear-joined (nameChecks file) _ (names-clear e z), ← f, ← g) h
+
+  -- a bundle that nothing refuses; r stands for the answer of all stages
+  module _ {r : ℕ} (e : r ≡ refusal file) (z : r ≡ 0) where
+    pub sound-clear : Clear (checks file)
+    unfolding refusal checks nameChecks headerChecks directoryChecks manifestChecks nodeChecks
+    sound-clear = first-clear 0 (checks file) (omega arith) (sym e ∙ z)
+
+    sound-parts : Clear (nameChecks file) × Clear (nodeChecks (manifestSection file) (nodesSection file))
+    unfolding checks
+    sound-parts = clear-parts (nameChecks file) _ .0 sound-clear
+
+    -- the directory lies in it, the manifest and the nodes have their shapes, each child has a record, and none is its own
+    -- descendant
+    pub sound-inside : headerBytes + entryBytes * sectionCount file ≤ length file
+    sound-inside = clear-inside (names-parts (sound-parts .0) .0)
+
+    pub sound-manifest : malformed (manifestSection file) ≡ false
+    unfolding manifestChecks
+    sound-manifest = names-parts (sound-parts .0) .2 .0
+
+    pub sound-shaped : shaped (nodesSection file) ≡ true
+    unfolding nodeChecks
+    sound-shaped = not-false _ (sound-parts .1 .0)
+
+    pub sound-closed : someFaulty Child (nodesOf (nodesSection file)) (nodesOf (nodesSection file)) ≡ false
+    unfolding nodeChecks
+    sound-closed = sound-parts .1 .1 .1 .1 .0
+
+    pub sound-whole : circular (nodesOf (nodesSection file)) ≡ false
+    unfolding nodeChecks
+    sound-whole = sound-parts .1 .1 .1 .1 .1 .0
 
 -- the records that are placed are those of the nodes section; s stands for it, as the call answered it
 pub placed-nodes : {s t links slots : List ℕ} → s ≡ t → Placing (nodesOf s) links slots → Placing (nodesOf t) links slots

@@ -9,3 +9,14 @@ pub mod SameSteps
 pub mod DoneStays
 pub mod OneStore
 pub mod SessionSimulates
+pub mod PlacingOrder
+pub mod WrittenSlots
+pub mod OneLeaf
+pub mod LoadedTable
+pub mod LoadVerdict
+pub mod LoadAccepted
+pub mod LoadBlind
+pub mod OneOrder
+pub mod LoadLeaves
+pub mod RunZero
+pub mod Demands

@@ -83,14 +83,14 @@ module _ (all : List Node) where
   links-length [] = refl
   links-length (r ∷ rs) = omega (arith, links-length rs)
 
-  links-first : (rs : List Node) (i : ℕ) → i < length rs → getD (links all rs) (2 * i) 0 ≡ firstLink all (childrenAt rs i)
+  pub links-first : (rs : List Node) (i : ℕ) → i < length rs → getD (links all rs) (2 * i) 0 ≡ firstLink all (childrenAt rs i)
   unfolding links
   links-first [] i l = absurd (omega arith)
   links-first (r ∷ rs) zero l = refl
   links-first (r ∷ rs) (suc i) l =
       let e : 2 * suc i ≡ suc (suc (2 * i)) = omega arith in rw e (links-first rs i (omega arith))
 
-  links-second : (rs : List Node) (i : ℕ) → i < length rs →
+  pub links-second : (rs : List Node) (i : ℕ) → i < length rs →
       getD (links all rs) (2 * i + 1) 0 ≡ secondLink all (childrenAt rs i)
   unfolding links
   links-second [] i l = absurd (omega arith)

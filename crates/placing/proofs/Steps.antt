@@ -1,7 +1,7 @@
 -- What a step of placing keeps, all of placing keeps; how far it goes, and where it ends.
 use Prim.Native.Nat.{ℕ, zero, suc, _+_, _≤_, _<_}
 use mathlib.Core.Path.{_≡_, refl, _∙_}
-use mathlib.Core.Bool.{true}
+use mathlib.Core.Bool.{true, false}
 use mathlib.Core.List.{List}
 use mathlib.Core.Logic.{_⊎_, inl, inr, ⊎-elim}
 use native.Mathlib.Omega.{arith}
@@ -9,23 +9,34 @@ use lib.ListN.{length, length-set, length-replicate}
 use Rattle.wire.specs.declared.Found.{Found}
 use Rattle.wire.specs.declared.Found.the-variants.{Index, Nothing}
 use Rattle.placing.specs.Placing.{ready, earliest, Placed, put, onNext, placing, unplaced, placed}
-use Rattle.placing.proofs.Views.{earliest-is}
+use Rattle.placing.proofs.Views.{earliest-is, earliest-first}
 
 module _ (L : List ℕ) (n : ℕ) where
-  abbrev pub Keeps : (Placed → Type 0) → Type 0
-  Keeps P = (p : Placed) (i : ℕ) → P p → i < n → ready L (p .slots) i ≡ true → P (put p i)
+  -- a step: record i is ready, and no record before it is
+  abbrev pub KeepsFirst : (Placed → Type 0) → Type 0
+  KeepsFirst P =
+      (p : Placed) (i : ℕ) → P p → i < n → ready L (p .slots) i ≡ true →
+      ((j : ℕ) → j < i → ready L (p .slots) j ≡ false) → P (put p i)
 
-  pub placing-keeps : (P : Placed → Type 0) → Keeps P → (m : ℕ) (p : Placed) → P p → P (placing m L n p)
+  pub placing-keeps-first : (P : Placed → Type 0) → KeepsFirst P → (m : ℕ) (p : Placed) → P p → P (placing m L n p)
   unfolding placing
-  placing-keeps P keep zero p h = h
-  placing-keeps P keep (suc m) p h = go (earliest L (p .slots) n 0) refl (placing-keeps P keep m)
+  placing-keeps-first P keep zero p h = h
+  placing-keeps-first P keep (suc m) p h = go (earliest L (p .slots) n 0) refl (placing-keeps-first P keep m)
     where
       go : (r : Found) → earliest L (p .slots) n 0 ≡ r → ((q : Placed) → P q → P (placing m L n q)) →
           P (onNext r p (λ i. placing m L n (put p i)))
       go (Index i) e ih =
           let v = earliest-is L (p .slots) n 0 i e in
-          ih (put p i) (keep p i h (omega arith) (v .2))
+          let f = earliest-first L (p .slots) n 0 i e in
+          ih (put p i) (keep p i h (omega arith) (v .2) (λ j l. f j (omega arith) l))
       go Nothing e ih = h
+
+  -- what does not ask which ready record it is
+  abbrev pub Keeps : (Placed → Type 0) → Type 0
+  Keeps P = (p : Placed) (i : ℕ) → P p → i < n → ready L (p .slots) i ≡ true → P (put p i)
+
+  pub placing-keeps : (P : Placed → Type 0) → Keeps P → (m : ℕ) (p : Placed) → P p → P (placing m L n p)
+  placing-keeps P keep = placing-keeps-first P (λ p i h l r f. keep p i h l r)
 
   pub placing-length : (m : ℕ) (p : Placed) → length (placing m L n p .slots) ≡ length (p .slots)
   unfolding put

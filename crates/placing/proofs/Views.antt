@@ -3,7 +3,7 @@ use Prim.Native.Nat.{ℕ, zero, suc, _+_, _-_, _*_, _≤_, _<_}
 use mathlib.Core.Path.{_≡_, refl, subst}
 use mathlib.Core.Bool.{Bool, true, false, not, cond, true≢false, false≢true}
 use mathlib.Core.List.{List}
-use mathlib.Core.Logic.{_⊎_, inl, inr}
+use mathlib.Core.Logic.{_⊎_, inl, inr, ⊎-elim}
 use native.Mathlib.Omega.{arith}
 use native.Mathlib.Decide.{ℕ-discrete}
 use lib.ListN.{getD}
@@ -59,6 +59,18 @@ module _ (L S : List ℕ) (i : ℕ) where
       go true q k = inr k
       go false q k = inl q
 
+  -- an unplaced record is ready once its children are placed
+  pub ready-if : getD S i 0 ≡ 0 → ((j : ℕ) → Child L i j → 0 < getD S j 0) → ready L S i ≡ false → ⊥
+  ready-if e placed h =
+      ⊎-elim
+      (λ f.
+      let o = settled-not S (getD L (2 * i) 0) f in
+      omega (arith, o .0, o .1, placed (getD L (2 * i) 0 - 1) (first (omega (arith, o .0)))))
+      (λ f.
+      let o = settled-not S (getD L (2 * i + 1) 0) f in
+      omega (arith, o .0, o .1, placed (getD L (2 * i + 1) 0 - 1) (second (omega (arith, o .0)))))
+      (ready-not h e)
+
   -- a child of a ready record is placed
   pub child-ok : (j : ℕ) → ready L S i ≡ true → Child L i j → 0 < getD S j 0
   child-ok j r (first e) = settled-view S _ j (ready-view r .1) e
@@ -89,4 +101,19 @@ module _ (L S : List ℕ) where
           elim (ℕ-discrete i k) [
             | yes g ↦ rw (← g) q
             | no g ↦ ih f (omega arith) (omega arith)
+          ]
+
+  -- no record before the earliest is ready
+  pub earliest-first : (left i k : ℕ) → earliest L S left i ≡ Index k → (j : ℕ) → i ≤ j → j < k → ready L S j ≡ false
+  unfolding earliest
+  earliest-first zero i k e j a b = let z : _≡_ {A = ℕ} 0 1 = cc in absurd (omega arith)
+  earliest-first (suc left) i k e j a b = go (ready L S i) refl e (λ f. earliest-first left (i + 1) k f j)
+    where
+      go : (t : Bool) → ready L S i ≡ t → cond t (Index i) (earliest L S left (i + 1)) ≡ Index k →
+          (earliest L S left (i + 1) ≡ Index k → i + 1 ≤ j → j < k → ready L S j ≡ false) → ready L S j ≡ false
+      go true q f ih = let g : i ≡ k = cc in absurd (omega arith)
+      go false q f ih =
+          elim (ℕ-discrete i j) [
+            | yes g ↦ rw (← g) q
+            | no g ↦ ih f (omega arith) b
           ]

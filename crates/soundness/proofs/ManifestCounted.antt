@@ -26,7 +26,7 @@ abbrev pub countedAt : {A : Type 0} → List ℕ → (ℕ → Parsed) → (ℕ �
 countedAt s end read at = onNumber (numberAt 4 s at) (λ n. listFrom end read n (at + 4)) []
 
 -- where a count and its things end, the count is within its size, and the things end there
-counted-number : {A : Type 0} (s : List ℕ) (kind : Kind) (size : Size) (at : ℕ) {e : ℕ} → countedEnd s kind size at ≡ To e →
+pub counted-number : {A : Type 0} (s : List ℕ) (kind : Kind) (size : Size) (at : ℕ) {e : ℕ} → countedEnd s kind size at ≡ To e →
     ((n : ℕ) → numberAt 4 s at ≡ Value n → size .least ≤ n → n ≤ size .most → itemsEnd s kind n (at + 4) ≡ To e → A) → A
 unfolding countedEnd
 counted-number s kind size at g f =
@@ -117,3 +117,7 @@ module _ (s : List ℕ) where
       countAt s at ≡ length (countedAt s (stringEnd s) (λ p. textAt s (To p)) at)
   unfolding itemEnd
   text-length at g = counted-length s Text _ _ (string-parses s) capabilitiesSize at g
+
+  pub export-length : (at : ℕ) {e : ℕ} → countedEnd s Export exportsSize at ≡ To e → countAt s at ≡ length (exportsAt s at)
+  unfolding itemEnd exportsAt
+  export-length at g = counted-length s Export _ _ (export-parses s) exportsSize at g

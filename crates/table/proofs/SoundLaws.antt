@@ -143,3 +143,23 @@ pub sound-next : (w : List ℕ) (n : ℕ) (node : Node) → Sound w n → n < ro
     (node ≡ Leaf → ⊥) → Sound (putNode w n node) (n + 1)
 sound-next w n node s l z b h =
     record { fits = rw (room-put w n node) (omega arith); sound = sound-put w n node (s .sound) l z b h }
+
+leaf-or-sound : (n : ℕ) (node : Node) → Below n node → (node ≡ Leaf → n ≡ 0) →
+    slotSound n (firstWord node) (secondWord node) ≡ true
+unfolding slotSound
+leaf-or-sound zero Leaf b h = refl
+leaf-or-sound zero (Stem a) b h = absurd (omega arith)
+leaf-or-sound zero (Fork a c) b h = absurd (omega (arith, b .0))
+leaf-or-sound (suc n) Leaf b h = absurd (omega (arith, h refl))
+leaf-or-sound (suc n) (Stem a) b h = node-sound (suc n) (Stem a) (omega arith) b (λ e. let z : _≡_ {A = ℕ} 0 1 = cc in omega arith)
+leaf-or-sound (suc n) (Fork a c) b h =
+    node-sound (suc n) (Fork a c) (omega arith) b (λ e. let z : _≡_ {A = ℕ} 0 1 = cc in omega arith)
+
+-- slots that have nodes whose children are lower, and the leaf in slot 0 alone, are sound
+pub sound-each : (w : List ℕ) (n : ℕ) →
+    ((i : ℕ) → i < n → (node : Node) × Has w i node × Below i node × (node ≡ Leaf → i ≡ 0)) → sound w n ≡ true
+unfolding sound
+sound-each w zero each = refl
+sound-each w (suc n) each =
+    let (node, has, below, leaf) = each n (omega arith) in
+    rw (sound-each w n (λ i l. each i (omega arith)), has .first, has .second, leaf-or-sound n node below leaf)

@@ -1,0 +1,62 @@
+-- A sound bundle has one order of placing, and one tree for each of its records.
+use Prim.Native.Nat.{ℕ, suc, _<_}
+use mathlib.Core.Path.{_≡_, refl, sym, ap, _∙_, subst}
+use mathlib.Core.List.{List, [], _∷_, _++_}
+use mathlib.Core.Logic.{_⊎_, inl, inr, ⊎-elim}
+use native.Mathlib.Omega.{arith}
+use lib.ListN.{length, length-append}
+use Rattle.wire.specs.Relations.{Among, here, there}
+use Rattle.calculus.specs.Tree.{Tree}
+use Rattle.nodes.specs.Records.{Node, children}
+use Rattle.soundness.specs.Sound.{Sound}
+use Rattle.soundness.proofs.NodesTrees.{one-tree}
+use Rattle.guarantees.specs.Order.{Earliest, Placing, leaf-record, next-record, Order, TreesOf, none, more}
+use Rattle.guarantees.specs.Load.{OneOrder, OneStart}
+use Rattle.guarantees.proofs.OneLeaf.{one-leaf}
+
+-- two elements of one list are the same, or one stands before the other
+one-first : (b d : List Node) (r q : Node) (x y : List Node) → b ++ (r ∷ x) ≡ d ++ (q ∷ y) →
+    (r ≡ q) ⊎ (Among r d ⊎ Among q b)
+one-first [] [] r q x y e = inl (cc)
+one-first [] (s ∷ d) r q x y e = let z : s ≡ r = cc in inr (inl (subst (λ (n : Node). Among n (s ∷ d)) z here))
+one-first (s ∷ b) [] r q x y e = let z : s ≡ q = cc in inr (inr (subst (λ (n : Node). Among n (s ∷ b)) z here))
+one-first (s ∷ b) (u ∷ d) r q x y e =
+    let z : b ++ (r ∷ x) ≡ d ++ (q ∷ y) = cc in
+    ⊎-elim inl (λ a. inr (⊎-elim (λ m. inl (there m)) (λ m. inr (there m)) a)) (one-first b d r q x y z)
+
+-- the earliest is one record
+one-earliest : {rs ps : List Node} {r q : Node} → Earliest rs ps r → Earliest rs ps q → r ≡ q
+one-earliest {r = r} {q = q} e f =
+    ⊎-elim (λ z. z)
+    (λ a. absurd (⊎-elim (λ m. f .first r m (e .unplaced) (e .ready)) (λ m. e .first q m (f .unplaced) (f .ready)) a))
+    (one-first (e .before) (f .before) r q (e .behind) (f .behind) (sym (e .there) ∙ f .there))
+
+placing-some : {rs ps : List Node} → Placing rs ps → 0 < length ps
+placing-some (leaf-record a e) = omega arith
+placing-some (next-record {placed = ps} {r = r} p e) = omega (arith, length-append ps (r ∷ []))
+
+module _ (rs : List Node)
+    (alone : (r q : Node) → Among r rs → Among q rs → children r ≡ [] → children q ≡ [] → r ≡ q) where
+  one-placing : {a b : List Node} → Placing rs a → Placing rs b → length a ≡ length b → a ≡ b
+  one-placing (leaf-record {r = r} a e) (leaf-record {r = q} b f) l = cc (alone r q a b e f)
+  one-placing (leaf-record a e) (next-record {placed = qs} {r = q} p f) l =
+      absurd (omega (arith, length-append qs (q ∷ []), placing-some p))
+  one-placing (next-record {placed = ps} {r = r} p e) (leaf-record b f) l =
+      absurd (omega (arith, length-append ps (r ∷ []), placing-some p))
+  one-placing (next-record {placed = ps} {r = r} p e) (next-record {placed = qs} {r = q} o f) l =
+      let m : length ps ≡ length qs = omega (arith, length-append ps (r ∷ []), length-append qs (q ∷ [])) in
+      let z : ps ≡ qs = one-placing p o m in
+      let y : r ≡ q = one-earliest {rs = rs} e (rw z f) in
+      cc
+
+pub one-order : OneOrder
+one-order file sound a b x y =
+    one-placing (sound .nodes) (one-leaf (sound .nodes) (sound .is-nodes) (sound .hashed) (sound .distinct))
+    (x .placing) (y .placing) (x .whole ∙ sym (y .whole))
+
+pub one-start : OneStart
+one-start file sound = same
+  where
+    same : (order : List Node) (a b : List Tree) → TreesOf (sound .nodes) order a → TreesOf (sound .nodes) order b → a ≡ b
+    same _ _ _ none none = refl
+    same _ _ _ (more n x) (more m y) = cc (one-tree (sound .nodes) (sound .distinct) n m, same _ _ _ x y)

@@ -1,0 +1,258 @@
+-- The order in which records get slots by their numbers is the order of placing: record i stands in it at the place of its slot.
+use Prim.Native.Nat.{ℕ, zero, suc, _+_, _-_, _≤_, _<_}
+use mathlib.Core.Path.{_≡_, refl, sym, ap, _∙_, subst}
+use mathlib.Core.Bool.{true, false}
+use mathlib.Core.List.{List, [], _∷_, _++_}
+use mathlib.Core.Logic.{_⊎_, inl, inr}
+use native.Mathlib.Omega.{arith}
+use native.Mathlib.Decide.{decLt, ℕ-discrete}
+use lib.ListN.{length, getD, take, drop, length-append, getD-replicate}
+use Rattle.wire.specs.Relations.{Among, here, there, Distinct}
+use Rattle.wire.proofs.Index.{among-index}
+use Rattle.sizes.specs.Sizes.{nodesSize}
+use Rattle.placing.specs.Placing.{Placed, ready, put, unplaced, placed}
+use Rattle.placing.specs.Circles.{Child}
+use Rattle.placing.proofs.Views.{ready-view, ready-if, child-ok}
+use Rattle.placing.proofs.Steps.{placing-keeps-first, placed-most}
+use Rattle.placing.proofs.Laid.{Laid, mine, unlike, others, put-laid, start-laid, placed-all}
+use Rattle.nodes.specs.Records.{Node, children, hashes}
+use Rattle.nodes.specs.Links.{linksOf, placedOf}
+use Rattle.nodes.proofs.Children.{at, hashAt, number-of, record-at, links-ok, Kids, none, one, two, kids-view, link-child, child-link, one-number}
+use Rattle.soundness.specs.NodesMeaning.{Closed}
+use Rattle.guarantees.specs.Order.{Ready, Earliest, Placing, leaf-record, next-record, Order}
+
+-- ---- lists
+
+-- an element of a list stands among its join with another, and the hash of a record among the hashes
+among-front : {A : Type 0} {x : A} {xs : List A} (ys : List A) → Among x xs → Among x (xs ++ ys)
+among-front ys here = here
+among-front ys (there a) = there (among-front ys a)
+
+pub hash-among : {r : Node} {rs : List Node} → Among r rs → Among (r .hash) (hashes rs)
+unfolding hashes
+hash-among here = here
+hash-among (there a) = there (hash-among a)
+
+pub among-hash : {h : List ℕ} (rs : List Node) → Among h (hashes rs) → (r : Node) × Among r rs × (r .hash ≡ h)
+unfolding hashes
+among-hash (r ∷ rs) here = (r, here, refl)
+among-hash (r ∷ rs) (there a) = let (q, b, e) = among-hash rs a in (q, there b, e)
+
+-- the list around its element i
+pub around : (rs : List Node) (i : ℕ) → i < length rs → rs ≡ take i rs ++ (at rs i ∷ drop (suc i) rs)
+around [] i l = absurd (omega arith)
+around (r ∷ rs) zero l = refl
+around (r ∷ rs) (suc i) l = ap (λ (xs : List Node). r ∷ xs) (around rs i (omega arith))
+
+-- an element of the first i stands at a number below i
+pub among-take : {q : Node} (rs : List Node) (i : ℕ) → Among q (take i rs) → (j : ℕ) × (j < i) × (j < length rs) × (at rs j ≡ q)
+among-take [] zero a = absurd (omega (arith, number-of a .1))
+among-take [] (suc i) a = absurd (omega (arith, number-of a .1))
+among-take (r ∷ rs) (suc i) here = (0, omega arith, omega arith, refl)
+among-take (r ∷ rs) (suc i) (there a) =
+    let (j, l, m, e) = among-take rs i a in (suc j, omega arith, omega arith, e)
+
+-- an element of a list that is joined at the end
+at-front : (ps : List Node) (r : Node) (j : ℕ) → j < length ps → at (ps ++ (r ∷ [])) j ≡ at ps j
+at-front [] r j l = absurd (omega arith)
+at-front (p ∷ ps) r zero l = refl
+at-front (p ∷ ps) r (suc j) l = at-front ps r j (omega arith)
+
+at-end : (ps : List Node) (r : Node) → at (ps ++ (r ∷ [])) (length ps) ≡ r
+at-end [] r = refl
+at-end (p ∷ ps) r = at-end ps r
+
+-- ---- one step after the other
+
+-- the records placed so far, with none at the start
+pub data Stages (rs : List Node) : List Node → Type 0 where
+  start : Stages rs []
+  step : {ps : List Node} {r : Node} → Stages rs ps → Earliest rs ps r → Stages rs (ps ++ (r ∷ []))
+
+module _ (rs : List Node) where
+  -- of the first record the children are all placed where none is, so it has none
+  childless : (r : Node) → Ready [] r → children r ≡ []
+  unfolding hashes
+  childless r ready = go (children r) (kids-view (r .payload)) ready
+    where
+      go : (cs : List (List ℕ)) → Kids cs → ((h : List ℕ) → Among h cs → Among h (hashes [])) → cs ≡ []
+      go [] none f = refl
+      go (a ∷ []) one f = absurd (omega (arith, among-index [] (f a here) .1))
+      go (a ∷ b ∷ []) two f = absurd (omega (arith, among-index [] (f a here) .1))
+
+  pub among-middle : (r : Node) (before behind : List Node) → Among r (before ++ (r ∷ behind))
+  among-middle r [] behind = here
+  among-middle r (q ∷ before) behind = there (among-middle r before behind)
+
+  pub earliest-among : {ps : List Node} {r : Node} → Earliest rs ps r → Among r rs
+  earliest-among {r = r} e = rw (e .there) (among-middle r (e .before) (e .behind))
+
+  stages-placing : {ps : List Node} → Stages rs ps → (ps ≡ []) ⊎ Placing rs ps
+  stages-placing start = inl refl
+  stages-placing (step {ps = ps} {r = r} s e) = inr (go (stages-placing s))
+    where
+      go : (ps ≡ []) ⊎ Placing rs ps → Placing rs (ps ++ (r ∷ []))
+      go (inl q) = rw q (leaf-record (earliest-among e) (childless r (rw q at (e .ready))))
+      go (inr p) = next-record p e
+
+module _ (rs : List Node) (few : length rs ≤ nodesSize .most) (apart : Distinct (hashes rs)) (closed : Closed rs) where
+  -- the records placed so far are those that have a slot, at the place of their slot
+  pub record Traced (p : Placed) : Type 0 where
+    pub laid : Laid (linksOf rs) (length rs) p
+    pub ps : List Node
+    pub long : length ps ≡ p .count
+    pub slots : (i : ℕ) → i < length rs → 0 < getD (p .slots) i 0 → at ps (getD (p .slots) i 0 - 1) ≡ at rs i
+    pub stages : Stages rs ps
+
+  module _ (p : Placed) (t : Traced p) where
+    -- a record has a slot exactly if it is placed
+    slot-placed : (i : ℕ) → i < length rs → 0 < getD (p .slots) i 0 → Among (at rs i) (t .ps)
+    slot-placed i l g =
+        subst (λ (r : Node). Among r (t .ps)) (t .slots i l g)
+        (record-at (t .ps) (getD (p .slots) i 0 - 1) (omega (arith, t .long, t .laid .low i l)))
+
+    placed-slot : {r : Node} → Among r (t .ps) → (i : ℕ) × (i < length rs) × (0 < getD (p .slots) i 0) × (at rs i ≡ r)
+    placed-slot a =
+        let (j, l, e) = number-of a in
+        let (i, m, f) = t .laid .onto j (omega (arith, t .long)) in
+        let g : 0 < getD (p .slots) i 0 = omega arith in
+        let z : getD (p .slots) i 0 - 1 ≡ j = omega arith in
+        (i, m, g, sym (t .slots i m g) ∙ rw z e)
+
+    -- the hash of a record with a slot is among the hashes of the placed, and the other way round
+    slot-of-hash : {h : List ℕ} → Among h (hashes (t .ps)) →
+        (i : ℕ) × (i < length rs) × (0 < getD (p .slots) i 0) × (hashAt rs i ≡ h)
+    slot-of-hash a =
+        let (r, b, e) = among-hash (t .ps) a in
+        let (i, l, g, f) = placed-slot b in
+        (i, l, g, ap (λ (q : Node). q .hash) f ∙ e)
+
+    module _ (i : ℕ) (l : i < length rs) (r : ready (linksOf rs) (p .slots) i ≡ true)
+        (f : (j : ℕ) → j < i → ready (linksOf rs) (p .slots) j ≡ false) where
+      is-unplaced : Among (at rs i) (t .ps) → ⊥
+      is-unplaced a =
+          let (j, m, g, e) = placed-slot a in
+          let z : j ≡ i = one-number rs apart j i m l (ap (λ (q : Node). q .hash) e) in
+          let o : 0 < getD (p .slots) i 0 = rw z at g in
+          omega (arith, ready-view (linksOf rs) (p .slots) i r .0)
+
+      children-placed : Ready (t .ps) (at rs i)
+      children-placed h a =
+          let (j, m, e, c) = child-link rs i l a (closed (at rs i) (record-at rs i l) h a) in
+          subst (λ (x : List ℕ). Among x (hashes (t .ps))) e
+          (hash-among (slot-placed j m (child-ok (linksOf rs) (p .slots) i j r c)))
+
+      none-before : (q : Node) → Among q (take i rs) → (Among q (t .ps) → ⊥) → Ready (t .ps) q → ⊥
+      none-before q a unplaced placed =
+          let (j, b, m, e) = among-take rs i a in
+          ready-if (linksOf rs) (p .slots) j
+          (elim (decLt 0 (getD (p .slots) j 0)) [
+            | yes g ↦ absurd (unplaced (rw e at (slot-placed j m g)))
+            | no g ↦ omega (arith, g)
+          ])
+          (λ k c.
+          let (o, d) = link-child rs j k m c in
+          let (x, y, g, u) = slot-of-hash (placed (hashAt rs k) (rw e at d)) in
+          let z : x ≡ k = one-number rs apart x k y o u in
+          rw z at g)
+          (f j b)
+
+      is-earliest : Earliest rs (t .ps) (at rs i)
+      is-earliest =
+          record {
+            before = take i rs;
+            behind = drop (suc i) rs;
+            there = around rs i l;
+            unplaced = is-unplaced;
+            ready = children-placed;
+            first = none-before;
+          }
+
+      put-slots : (j : ℕ) → j < length rs → 0 < getD (put p i .slots) j 0 →
+          at (t .ps ++ (at rs i ∷ [])) (getD (put p i .slots) j 0 - 1) ≡ at rs j
+      put-slots j m g =
+          elim (ℕ-discrete j i) [
+            | yes e ↦
+                let o : getD (put p i .slots) j 0 ≡ p .count + 1 = rw e (mine p i (omega (arith, t .laid .long))) in
+                let z : getD (put p i .slots) j 0 - 1 ≡ length (t .ps) = omega (arith, t .long) in
+                rw (z, e) (at-end (t .ps) (at rs i))
+            | no d ↦
+                let o = unlike p i j d in
+                let k : 0 < getD (p .slots) j 0 = omega arith in
+                rw o
+                (at-front (t .ps) (at rs i) (getD (p .slots) j 0 - 1) (omega (arith, t .long, t .laid .low j m))
+                ∙ t .slots j m k)
+          ]
+
+      put-traced : Traced (put p i)
+      unfolding put
+      put-traced =
+          record {
+            laid = put-laid (linksOf rs) (length rs) (links-ok rs few .small) p i (t .laid) l r;
+            ps = t .ps ++ (at rs i ∷ []);
+            long = simp length-append (omega (arith, t .long));
+            slots = put-slots;
+            stages = step (t .stages) is-earliest;
+          }
+
+  start-traced : Traced (unplaced (nodesSize .most))
+  start-traced =
+      record {
+        laid = start-laid (linksOf rs) (length rs) (nodesSize .most) few;
+        ps = [];
+        long = refl;
+        slots = λ i l g. absurd (omega (arith, getD-replicate {A = ℕ} (nodesSize .most) i 0 0 (omega arith)));
+        stages = start;
+      }
+
+  all-traced : Traced (placedOf rs)
+  unfolding placedOf placed
+  all-traced =
+      placing-keeps-first (linksOf rs) (length rs) Traced (λ p i t l r f. put-traced p t i l r f) (length rs)
+      (unplaced (nodesSize .most)) start-traced
+
+  -- ---- where all are placed
+
+  module _ (whole : length rs ≤ placedOf rs .count) where
+    all-counted : placedOf rs .count ≡ length rs
+    unfolding placedOf
+    all-counted = omega (arith, placed-most (linksOf rs) (length rs) (nodesSize .most))
+
+    pub order : List Node
+    order = all-traced .ps
+
+    pub has-slot : (i : ℕ) → i < length rs → (0 < getD (placedOf rs .slots) i 0) × (getD (placedOf rs .slots) i 0 ≤ length rs)
+    unfolding placedOf
+    has-slot i l = (
+      placed-all (linksOf rs) (length rs) (nodesSize .most) (links-ok rs few) whole i l,
+      omega (arith, all-traced .laid .low i l, all-counted),
+    )
+
+    pub order-long : length order ≡ length rs
+    unfolding order all-traced
+    order-long = all-traced .long ∙ all-counted
+
+    -- record i stands in the order at the place of its slot, and there is a record for every place
+    pub at-slot : (i : ℕ) → i < length rs → at order (getD (placedOf rs .slots) i 0 - 1) ≡ at rs i
+    unfolding order all-traced
+    at-slot i l = all-traced .slots i l (has-slot i l .0)
+
+    pub has-record : (k : ℕ) → k < length rs → (i : ℕ) × (i < length rs) × (getD (placedOf rs .slots) i 0 ≡ k + 1)
+    has-record k l = all-traced .laid .onto k (omega (arith, all-counted))
+
+    -- no two records have one slot, and children have lower ones
+    pub one-record-each : (i j : ℕ) → i < length rs → j < length rs →
+        getD (placedOf rs .slots) i 0 ≡ getD (placedOf rs .slots) j 0 → i ≡ j
+    one-record-each i j l m e = all-traced .laid .single i j l m (has-slot i l .0) e
+
+    pub child-lower : (i j : ℕ) → i < length rs → Child (linksOf rs) i j →
+        getD (placedOf rs .slots) j 0 < getD (placedOf rs .slots) i 0
+    child-lower i j l c = all-traced .laid .ranks i j l c (has-slot i l .0) .1
+
+    pub in-order : 0 < length rs → Order rs order
+    unfolding order all-traced
+    in-order some = record { placing = go (stages-placing rs (all-traced .stages)); whole = order-long }
+      where
+        go : (order ≡ []) ⊎ Placing rs order → Placing rs order
+        go (inl e) = absurd (omega (arith, ap length e, order-long))
+        go (inr p) = p

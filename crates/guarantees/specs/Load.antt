@@ -1,0 +1,126 @@
+-- What the load call guarantees. The proofs are in proofs/, a file for each statement.
+use Prim.Native.Nat.{ℕ, _≤_, _<_}
+use mathlib.Core.Path.{_≡_}
+use mathlib.Core.Bool.{true}
+use mathlib.Core.List.{List, []}
+use mathlib.Core.Logic.{_↔_}
+use lib.ListN.{length, getD, take, drop}
+use lib.IntN.{ℤ, pos, negsuc}
+use Rattle.calculus.specs.Tree.{Tree}
+use Rattle.table.specs.Slots.{room}
+use Rattle.table.specs.Holds.{Holds, Untouched}
+use Rattle.manifest.specs.Content.{Export}
+use Rattle.nodes.specs.Records.{Node, hashes}
+use Rattle.bundle.specs.References.{exportHashes}
+use Rattle.soundness.specs.Graph.{Names}
+use Rattle.soundness.specs.Sound.{Sound}
+use Rattle.soundness.specs.Meaning.{Lowest}
+use Rattle.loader.specs.declared.LoadAnswer.the-variants.{Refused, Accepted}
+use Rattle.loader.specs.Load.{unfit, crowded, loadChecks, Loaded, loaded, load}
+use Rattle.guarantees.specs.Order.{Order, TreesOf}
+use Rattle.guarantees.specs.Run.{SameFrom, beforeBase}
+use Rattle.guarantees.specs.Session.{Holding}
+
+-- ---- which loads are accepted
+
+-- 21: base negative or past the end of the table, or room below the node count
+pub data Unfit (words : List ℕ) (nodes : ℕ) : ℤ → Type 0 where
+  base-negative : {b : ℕ} → Unfit words nodes (negsuc b)
+  base-past : {b : ℕ} → length words < b → Unfit words nodes (pos b)
+  small-room : {b : ℕ} → room (drop b words) < nodes → Unfit words nodes (pos b)
+
+-- the tests of 21 and 22 say just this
+abbrev pub FitsExactly : Type 0
+FitsExactly =
+    (words exports : List ℕ) (base : ℤ) (nodes asked : ℕ) →
+    ((unfit words base nodes ≡ true) ↔ Unfit words nodes base) × ((crowded exports asked ≡ true) ↔ (length exports < asked))
+
+-- a sound bundle, within the limits, that fits the lent tables
+pub record Loadable (file words : List ℕ) (base : ℤ) (exports : List ℕ) : Type 0 where
+  pub sound : Sound file
+  pub fits : Unfit words (length (sound .nodes)) base → ⊥
+  pub space : length (sound .described .manifest .exports) ≤ length exports
+
+-- the call answers an accepted load
+abbrev pub IsAccepted : Loaded → Type 0
+IsAccepted (loaded words exports (Refused n)) = ⊥
+IsAccepted (loaded words exports (Accepted nodes listed)) = Unit {0}
+
+-- A load is accepted exactly when the bundle is sound, within the limits, and fits.
+abbrev pub AcceptedExactly : Type 0
+AcceptedExactly =
+    (file words : List ℕ) (base : ℤ) (exports : List ℕ) →
+    IsAccepted (load file words base exports) ↔ Loadable file words base exports
+
+-- Any other is answered by the lowest number that applies, which is one of the list; and no word is changed.
+abbrev pub RefusedByLowest : Type 0
+RefusedByLowest =
+    (file words words′ : List ℕ) (base : ℤ) (exports exports′ : List ℕ) (n : ℕ) →
+    load file words base exports ≡ loaded words′ exports′ (Refused n) →
+    Lowest (loadChecks file words base exports) n × (1 ≤ n) × (n ≤ 22) × (words′ ≡ words) × (exports′ ≡ exports)
+
+-- ---- what an accepted load leaves
+
+-- the word k is the slot of the tree that a hash names: that of the record with that hash
+pub record NamedSlot (rs order : List Node) (table : List ℕ) (k : ℕ) (h : List ℕ) : Type 0 where
+  pub tree : Tree
+  pub names : Names rs h tree
+  pub holds : Holds table (length rs) k tree
+  pub placed : getD (hashes order) k [] ≡ h
+
+-- words and exports are the tables before the load, words′ and exports′ those behind it, which are answered as having
+-- `nodes` nodes and `listed` exports
+pub record Loads (file words : List ℕ) (base : ℤ) (exports words′ exports′ : List ℕ) (nodes listed : ℕ) : Type 0 where
+  pub sound : Sound file
+  pub at : ℕ
+  pub base-is : base ≡ pos at
+  pub inside : at ≤ length words
+  pub nodes-are : nodes ≡ length (sound .nodes)
+  pub listed-are : listed ≡ length (sound .described .manifest .exports)
+  -- slot i holds the tree that the hash of the i-th placed record names; the used slots are sound, and slot zero is the leaf
+  pub order : List Node
+  pub in-order : Order (sound .nodes) order
+  pub store : List Tree
+  pub trees : TreesOf (sound .nodes) order store
+  pub holding : Holding (drop at words′) nodes store
+  -- all other words stay, also those before the base
+  pub before : take at words′ ≡ take at words
+  pub untouched : Untouched (drop at words) 0 (drop at words′) nodes
+  -- the word of each export is the slot of the tree that its hash names, in manifest order; the words behind them stay
+  pub export-slots : (i : ℕ) → i < listed →
+      NamedSlot (sound .nodes) order (drop at words′) (getD exports′ i 0)
+      (getD (exportHashes (sound .described .manifest .exports)) i [])
+  pub exports-long : length exports′ ≡ length exports
+  pub exports-rest : drop listed exports′ ≡ drop listed exports
+
+abbrev pub LoadLeaves : Type 0
+LoadLeaves =
+    (file words words′ : List ℕ) (base : ℤ) (exports exports′ : List ℕ) (nodes listed : ℕ) →
+    load file words base exports ≡ loaded words′ exports′ (Accepted nodes listed) →
+    Loads file words base exports words′ exports′ nodes listed
+
+-- A sound bundle has just one order of placing, and just one store: nothing is left open in what a load leaves.
+abbrev pub OneOrder : Type 0
+OneOrder =
+    (file : List ℕ) (sound : Sound file) (a b : List Node) → Order (sound .nodes) a → Order (sound .nodes) b → a ≡ b
+
+abbrev pub OneStart : Type 0
+OneStart =
+    (file : List ℕ) (sound : Sound file) (order : List Node) (a b : List Tree) →
+    TreesOf (sound .nodes) order a → TreesOf (sound .nodes) order b → a ≡ b
+
+-- ---- the words before the base
+
+-- what two loads leave and answer: the same answer and export table, the same words from the base on, and before it those
+-- that were there
+abbrev pub SameLoad : ℤ → List ℕ → List ℕ → Loaded → Loaded → Type 0
+SameLoad base w w′ (loaded v e a) (loaded v′ e′ a′) =
+    (a ≡ a′) × (e ≡ e′) × SameFrom base v v′
+    × (beforeBase base v ≡ beforeBase base w) × (beforeBase base v′ ≡ beforeBase base w′)
+
+-- No word before the base is looked at or changed: whatever those words hold, all else comes out the same.
+abbrev pub LoadBlind : Type 0
+LoadBlind =
+    (file w w′ exports : List ℕ) (base : ℤ) →
+    SameFrom base w w′ →
+    SameLoad base w w′ (load file w base exports) (load file w′ base exports)

@@ -1,0 +1,8 @@
+pub mod NodeLaws
+pub mod Placements
+pub mod Writing
+pub mod ExportLaws
+pub mod Naming
+pub mod Fitting
+pub mod Refusals
+pub mod Accepting

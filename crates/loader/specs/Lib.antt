@@ -1,0 +1,4 @@
+pub mod Written
+pub mod Load
+pub mod Answer
+pub mod Ready

@@ -1,0 +1,82 @@
+// Writes the slots of the exports.
+ghost use mathlib.Core.Path.{_≡_};
+ghost use mathlib.Core.Bool.{false};
+ghost use mathlib.Core.List.{_++_};
+ghost use Prim.Native.Nat.{_≤_};
+ghost use lib.ListN.{length, drop};
+ghost use Rattle.sizes.specs.Sizes.{exportsSize};
+ghost use Rattle.manifest.specs.Judged.{malformed, exportsOf};
+ghost use Rattle.nodes.specs.Records.{nodesOf};
+ghost use Rattle.bundle.specs.References.{exportHashes, hashesFrom};
+ghost use Rattle.loader.specs.Written.{slotNamed, slotsNamed};
+ghost use Rattle.loader.specs.Ready.{Slotted};
+use crate::records::slot_at;
+use bundle::references::Reference;
+use bundle::references::reference_end;
+use bundle::references::reference_hash;
+use manifest::content::count_at;
+use manifest_shape::Manifest;
+use manifest_shape::parts::Parsed;
+use nodes::find::find_record;
+use table::slots::Slot;
+use wire::Found;
+
+// How many exports a manifest section lists, and where they stand.
+pub struct Listed {
+    pub count: u64,
+    pub at: usize,
+}
+
+pub(crate) fn list_exports(m: &[u8]) -> Listed
+    requires { ⌜ malformed (now m) ≡ false ⌝ }
+    ensures { λ r. ⌜ (r .count ≡ length (exportsOf (now (m .entry))))
+        × (hashesFrom (now (m .entry)) Reference.Export (r .count) (r .at) ≡ exportHashes (exportsOf (now (m .entry))))
+        × (r .count ≤ exportsSize .most) ⌝ }
+{
+    match manifest_shape::read(m) {
+        Manifest::Shape(l) => {
+            let at = l.exports;
+            Listed {
+                count: count_at(m, at),
+                at: at + 4,
+            }
+        }
+        Manifest::Malformed => Listed { count: 0, at: 0 },
+    }
+}
+
+// The slot of the record with a hash.
+fn slot_named(s: &[u8], slots: &[u32], h: &[u8]) -> Slot
+    requires { ⌜ Slotted (nodesOf (now s)) (now slots) ⌝ }
+    ensures { λ r. ⌜ r ≡ slotNamed (nodesOf (now (s .entry))) (now (h .entry)) ⌝ }
+{
+    match find_record(s, h) {
+        Found::Index(i) => slot_at(slots, i),
+        Found::Nothing => Slot::ZERO,
+    }
+}
+
+// Writes the slots of the n exports from a position on, in their order.
+pub(crate) fn put_exports(m: &[u8], n: usize, at: usize, s: &[u8], slots: &[u32], out: &mut [u32])
+    requires { ⌜ Slotted (nodesOf (now s)) (now slots) × (n ≤ length (now out))
+        × (length (hashesFrom (now m) Reference.Export n at) ≡ n) ⌝ }
+    ensures { λ _. ⌜ now (out .exit)
+        ≡ slotsNamed (nodesOf (now (s .entry))) (hashesFrom (now (m .entry)) Reference.Export n at)
+        ++ drop n (now (out .entry)) ⌝ }
+{
+    let mut p = at;
+    let mut j: usize = 0;
+    while j < n {
+        match reference_end(m, Reference::Export, p) {
+            Parsed::To(q) => {
+                let slot = slot_named(s, slots, reference_hash(m, Reference::Export, p));
+                out[j] = slot.0;
+                p = q;
+                j += 1;
+            }
+            Parsed::Bad => {
+                return;
+            }
+        }
+    }
+}

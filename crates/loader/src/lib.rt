@@ -1,0 +1,90 @@
+// The load call: checks a bundle, writes its nodes in their slots and the slots of its exports.
+ghost use mathlib.Core.Path.{_≡_};
+ghost use Rattle.nodes.specs.Links.{Scratch, Placing};
+ghost use Rattle.loader.specs.Load.{recordsIn, loadRefusal, loaded, accept, load};
+ghost use Rattle.loader.specs.Ready.{Loadable};
+use crate::exports::list_exports;
+use crate::exports::put_exports;
+use crate::fit::unfit;
+use crate::records::put_records;
+use bundle::check_and_place;
+use bundle::directory::MANIFEST;
+use bundle::directory::NODES;
+use bundle::directory::section;
+use nodes::records::count;
+
+mod exports;
+mod fit;
+mod records;
+
+// What a load answers; specs/Answer.antt gives the paper's numbers for each case.
+pub enum LoadAnswer {
+    // By 1 to 22.
+    Refused(u32),
+    Accepted { nodes: u32, exports: u32 },
+}
+
+// 1 to 22: the number of the first check that holds, or 0 with the links of the records and their slots.
+fn refusal(
+    file: &[u8],
+    words: &[u32],
+    base: i32,
+    exports: &[u32],
+    links: &mut [u32],
+    slots: &mut [u32],
+) -> u32
+    requires { ⌜ Scratch (now links) (now slots) ⌝ }
+    ensures { λ r. ⌜ (r ≡ loadRefusal (now (file .entry)) (now (words .entry)) base (now (exports .entry)))
+        × (r ≡ 0 → Placing (recordsIn (now (file .entry))) (now (links .exit)) (now (slots .exit))) ⌝ }
+{
+    let refused = check_and_place(file, links, slots);
+    if refused != 0 {
+        return refused;
+    }
+    if unfit(words, base, count(section(file, NODES))) {
+        return 21;
+    }
+    let asked = list_exports(section(file, MANIFEST));
+    if (exports.len() as u64) < asked.count {
+        return 22;
+    }
+    0
+}
+
+// Writes what an accepted bundle has: its records, and the slots of its exports.
+fn write(
+    file: &[u8],
+    links: &[u32],
+    slots: &[u32],
+    words: &mut [u32],
+    exports: &mut [u32],
+) -> LoadAnswer
+    requires { ⌜ Loadable (now file) (now words) (now exports) (now links) (now slots) ⌝ }
+    ensures { λ r. ⌜ loaded (now (words .exit)) (now (exports .exit)) r
+        ≡ accept (now (file .entry)) (now (words .entry)) (now (exports .entry)) ⌝ }
+{
+    let s = section(file, NODES);
+    let m = section(file, MANIFEST);
+    let asked = list_exports(m);
+    put_records(s, links, slots, words);
+    put_exports(m, asked.count as usize, asked.at, s, slots, exports);
+    LoadAnswer::Accepted {
+        nodes: count(s) as u32,
+        exports: asked.count as u32,
+    }
+}
+
+// Loads the bundle into the table that starts at word base, and the slots of its exports into the export table.
+pub fn load(file: &[u8], words: &mut [u32], base: i32, exports: &mut [u32]) -> LoadAnswer
+    ensures { λ r. ⌜ loaded (now (words .exit)) (now (exports .exit)) r
+        ≡ load (now (file .entry)) (now (words .entry)) base (now (exports .entry)) ⌝ }
+{
+    let mut links: [u32; 1024] = [0; 1024];
+    let mut slots: [u32; 512] = [0; 512];
+    let refused = refusal(file, words, base, exports, &mut links, &mut slots);
+    if refused != 0 {
+        return LoadAnswer::Refused(refused);
+    }
+    let at = base as usize;
+    write(file, &links, &slots, &mut words[at..], exports)
+}
