@@ -1,9 +1,10 @@
 -- Laws of the hashes that a manifest's references name: what the first of them adds to the question whether one is lost, and
--- that they are the hashes of the roots and of the exports.
-use Prim.Native.Nat.{ℕ, _+_, _-_, _≤_, _<_}
-use mathlib.Core.Path.{_≡_, refl}
-use mathlib.Core.List.{List}
+-- that they are the hashes of the roots and of the exports, as many as these.
+use Prim.Native.Nat.{ℕ, suc, _+_, _-_, _≤_, _<_}
+use mathlib.Core.Path.{_≡_, refl, ap}
+use mathlib.Core.List.{List, [], _∷_}
 use mathlib.Core.Bool.{Bool, true, false}
+use lib.ListN.{length}
 use Rattle.wire.specs.Wire.{numberAt, indexOf, found}
 use Rattle.manifest_shape.specs.declared.parts.Parsed.{Parsed}
 use Rattle.manifest_shape.specs.declared.parts.Parsed.the-variants.{To, Bad}
@@ -48,3 +49,8 @@ module _ (m : List ℕ) (at : ℕ) where
   hashes-exports =
       counted-all (λ (e : ExportRecord). e .hash) exportHashes refl (λ x xs. refl) (exportEnd m) (exportAt m)
       (numberAt 4 m at) (at + 4)
+
+pub export-hashes-length : (es : List ExportRecord) → length (exportHashes es) ≡ length es
+unfolding exportHashes
+export-hashes-length [] = refl
+export-hashes-length (e ∷ es) = ap suc (export-hashes-length es)

@@ -2,7 +2,7 @@
 use Prim.Native.Nat.{ℕ, _≤_}
 use mathlib.Core.Path.{_≡_, refl, sym, _∙_}
 use mathlib.Core.Bool.{Bool, true, false, cond}
-use mathlib.Core.List.{List}
+use mathlib.Core.List.{List, _++_}
 use native.Mathlib.Omega.{arith}
 use lib.ListN.{length, take, drop, length-append}
 use lib.Seq.{take-at, drop-at, length-take-le}
@@ -11,20 +11,23 @@ use lib.IntN.{pos, negsuc}
 use borrow.Author.Tests.{ltb-false}
 use Rattle.engine.specs.declared.RunAnswer.the-variants.{Refused}
 use Rattle.engine.specs.Run.{Ran, ran, run, runTail, behind}
-use Rattle.guarantees.specs.Run.{SameRun, BaseBlind}
+use Rattle.guarantees.specs.Run.{SameFrom, SameRun, BaseBlind}
 
--- one run behind two parts that end at the base
-behind-same : (w w′ : List ℕ) (b : ℕ) → length w ≡ length w′ → b ≤ length w → (r : Ran)
-    → SameRun (pos b) w w′ (behind (take b w) r) (behind (take b w′) r)
-behind-same w w′ b l h (ran v k a) =
+-- what stands behind two parts that end at the base: the same from the base on, and before it those parts
+pub same-behind : (w w′ : List ℕ) (b : ℕ) → length w ≡ length w′ → b ≤ length w → (v : List ℕ) →
+    SameFrom (pos b) (take b w ++ v) (take b w′ ++ v)
+    × (take b (take b w ++ v) ≡ take b w) × (take b (take b w′ ++ v) ≡ take b w′)
+same-behind w w′ b l h v =
     let m = length-take-le b w h in
     let m′ = length-take-le b w′ (omega arith) in (
-      refl,
-      refl,
       (simp length-append (cc), drop-at (take b w) v b m ∙ sym (drop-at (take b w′) v b m′)),
       take-at (take b w) v b m,
       take-at (take b w′) v b m′,
     )
+
+behind-same : (w w′ : List ℕ) (b : ℕ) → length w ≡ length w′ → b ≤ length w → (r : Ran)
+    → SameRun (pos b) w w′ (behind (take b w) r) (behind (take b w′) r)
+behind-same w w′ b l h (ran v k a) = let (from, before, before′) = same-behind w w′ b l h v in (refl, refl, from, before, before′)
 
 pub base-blind : BaseBlind
 unfolding run

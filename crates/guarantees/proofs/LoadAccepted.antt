@@ -20,12 +20,13 @@ use Rattle.soundness.specs.Sound.{Sound}
 use Rattle.soundness.specs.Meaning.{Lowest}
 use Rattle.soundness.proofs.ManifestMeaning.{reads-exports}
 use Rattle.soundness.proofs.NodesMeaning.{reads-nodes}
-use Rattle.soundness.proofs.File.{clear-sound, sound-clear}
+use Rattle.soundness.proofs.File.{false-of, clear-sound, sound-clear}
 use Rattle.soundness.proofs.Lowest.{first-lowest}
 use Rattle.loader.specs.declared.LoadAnswer.the-variants.{Refused, Accepted}
 use Rattle.loader.specs.Load.{unfit, crowded, loadChecks, loadRefusal, Loaded, loaded, behind, accept, acceptFrom, load}
+use Rattle.loader.proofs.Refusals.{load-ascends}
 use Rattle.guarantees.specs.Load.{Unfit, base-negative, base-past, small-room, Loadable, IsAccepted, AcceptedExactly, RefusedByLowest}
-use Rattle.guarantees.proofs.LoadVerdict.{fits-exactly, fitting, load-ascends, unrefused-exactly, load-unrefused, load-refused}
+use Rattle.guarantees.proofs.LoadVerdict.{fits-exactly, unrefused-exactly, load-unrefused, load-refused}
 
 -- the records and exports that are read are the bundle's
 pub nodes-read : {file : List ℕ} (sound : Sound file) → nodesOf (nodesSection file) ≡ sound .nodes
@@ -35,10 +36,6 @@ pub exports-read : {file : List ℕ} (sound : Sound file) →
     exportsOf (manifestSection file) ≡ sound .described .manifest .exports
 exports-read {file} sound =
     reads-exports (manifestSection file) (sound .described .manifest) (sound .described .is-manifest)
-
-false-of : (b : Bool) → (b ≡ true → ⊥) → b ≡ false
-false-of true n = absurd (n refl)
-false-of false n = refl
 
 module _ (file w : List ℕ) (base : ℤ) (out : List ℕ) where
   -- ---- which are accepted

@@ -5,27 +5,18 @@ use mathlib.Core.Bool.{Bool, true, false, cond}
 use mathlib.Core.List.{List}
 use native.Mathlib.Omega.{arith}
 use native.Mathlib.Decide.{ℕ-discrete}
-use lib.ListN.{length, take, drop, length-append}
-use lib.Seq.{take-at, drop-at, length-take-le}
+use lib.ListN.{length, take, drop}
 use lib.Dec.{eqb}
 use lib.IntN.{ℤ, pos, negsuc}
 use Rattle.loader.specs.declared.LoadAnswer.the-variants.{Refused}
 use Rattle.loader.specs.Load.{unfit, loadChecks, loadRefusal, Loaded, loaded, behind, accept, acceptFrom, load}
 use Rattle.guarantees.specs.Load.{SameLoad, LoadBlind}
+use Rattle.guarantees.proofs.BaseBlind.{same-behind}
 use Rattle.guarantees.proofs.LoadVerdict.{fitting, unrefused-exactly, load-unrefused, load-refused}
 
--- what is written behind two parts that end at the base
 behind-same : (w w′ : List ℕ) (b : ℕ) → length w ≡ length w′ → b ≤ length w → (l : Loaded) →
     SameLoad (pos b) w w′ (behind (take b w) l) (behind (take b w′) l)
-behind-same w w′ b e h (loaded v x a) =
-    let m = length-take-le b w h in
-    let m′ = length-take-le b w′ (omega arith) in (
-      refl,
-      refl,
-      (simp length-append (cc), drop-at (take b w) v b m ∙ sym (drop-at (take b w′) v b m′)),
-      take-at (take b w) v b m,
-      take-at (take b w′) v b m′,
-    )
+behind-same w w′ b e h (loaded v x a) = let (from, before, before′) = same-behind w w′ b e h v in (refl, refl, from, before, before′)
 
 module _ (file w w′ out : List ℕ) (b : ℕ) (long : length w ≡ length w′) (same : drop b w ≡ drop b w′) where
   judged-alike : loadRefusal file w (pos b) out ≡ loadRefusal file w′ (pos b) out

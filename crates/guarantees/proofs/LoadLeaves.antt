@@ -18,6 +18,7 @@ use Rattle.nodes.specs.Records.{Node, hashes}
 use Rattle.nodes.specs.Links.{placedOf}
 use Rattle.nodes.proofs.Children.{hashes-at, number-of}
 use Rattle.bundle.specs.References.{exportHashes}
+use Rattle.bundle.proofs.Hashes.{export-hashes-length}
 use Rattle.soundness.specs.Graph.{Names}
 use Rattle.soundness.specs.NodesGrammar.{IsNodes, nodes}
 use Rattle.soundness.specs.Sound.{Sound}
@@ -59,11 +60,6 @@ unfolding exportHashes
 export-hash [] i l = absurd (omega arith)
 export-hash (e ∷ es) zero l = (e, here, refl)
 export-hash (e ∷ es) (suc i) l = let (f, a, q) = export-hash es i (omega arith) in (f, there a, q)
-
-export-hashes-long : (es : List Export) → length (exportHashes es) ≡ length es
-unfolding exportHashes
-export-hashes-long [] = refl
-export-hashes-long (e ∷ es) = ap suc (export-hashes-long es)
 
 -- the slots of some hashes
 module _ (rs : List Node) where
@@ -145,7 +141,7 @@ module _ (file w out : List ℕ) (b : ℕ) (sound : Sound file) (inside : b ≤ 
       let is-order = in-order rs few (sound .distinct) (sound .closed) whole some in
       let (store, trees, long) = trees-of placedAll (λ r a. placing-among (is-order .placing) a) in
       let k = slots-long rs (exportHashes es) in
-      let m = export-hashes-long es in
+      let m = export-hashes-length es in
       record {
         sound = sound;
         at = b;

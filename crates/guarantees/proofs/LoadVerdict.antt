@@ -11,12 +11,13 @@ use lib.IntN.{ℤ, pos, negsuc}
 use borrow.Author.Tests.{lt-ltb, ltb-true, ltb-false, eq-eqb, ne-eqb}
 use Rattle.wire.specs.Wire.{anyOf}
 use Rattle.wire.proofs.Bytes.{not-both}
-use Rattle.wire.proofs.Tests.{either-false}
 use Rattle.table.specs.Slots.{room}
-use Rattle.bundle.specs.Checks.{Check, firstOf, headerChecks, directoryChecks, manifestChecks, nodeChecks, nameChecks, checks}
-use Rattle.bundle.proofs.Rows.{Ascends, Clear, clear-first, first-clear, clear-parts}
+use Rattle.bundle.specs.Checks.{checks}
+use Rattle.bundle.proofs.Rows.{Clear, clear-first, clear-parts}
 use Rattle.loader.specs.declared.LoadAnswer.the-variants.{Refused, Accepted}
 use Rattle.loader.specs.Load.{recordsIn, exportsIn, unfit, crowded, loadChecks, loadRefusal, Loaded, loaded, acceptFrom, load}
+use Rattle.loader.proofs.Fitting.{fit-room}
+use Rattle.loader.proofs.Refusals.{all-clear}
 use Rattle.guarantees.specs.Load.{Unfit, base-negative, base-past, small-room, FitsExactly}
 
 -- ---- 21 and 22
@@ -50,20 +51,13 @@ fits-exactly words exports base nodes asked =
 -- where 21 does not hold, the base is in the table, and there is room
 pub fitting : (w : List ℕ) (base : ℤ) (n : ℕ) → unfit w base n ≡ false →
     (b : ℕ) × (base ≡ pos b) × (b ≤ length w) × (n ≤ room (drop b w))
-unfolding unfit anyOf
+unfolding unfit
 fitting w (negsuc b) n e = not-both refl e
-fitting w (pos b) n e =
-    let (p, q) = either-false (ltb (length w) b) (cond (ltb (room (drop b w)) n) true false) .0 e in
-    let (r, s) = either-false (ltb (room (drop b w)) n) false .0 q in
-    (b, refl, ltb-false _ _ p, ltb-false _ _ r)
+fitting w (pos b) n e = let (inside, enough) = fit-room w n (pos b) e in (b, refl, inside, enough)
 
 -- ---- the table of refusals
 
 module _ (file w : List ℕ) (base : ℤ) (out : List ℕ) where
-  pub load-ascends : Ascends 0 (loadChecks file w base out)
-  unfolding loadChecks checks nameChecks headerChecks directoryChecks manifestChecks nodeChecks
-  load-ascends = omega arith
-
   -- nothing refuses it exactly where no check holds
   pub unrefused-exactly : (loadRefusal file w base out ≡ 0) ↔
       (Clear (checks file) × (unfit w base (length (recordsIn file)) ≡ false) ×
@@ -72,7 +66,7 @@ module _ (file w : List ℕ) (base : ℤ) (out : List ℕ) where
   unrefused-exactly =
       let parts = clear-parts (checks file) _ in (
         λ e.
-            let (a, (b, (c, _))) = parts .0 (first-clear 0 (loadChecks file w base out) load-ascends e) in
+            let (a, (b, (c, _))) = parts .0 (all-clear file w base out refl e) in
             (a, b, c),
         λ h. clear-first (loadChecks file w base out) (parts .1 (h .0, (h .1, (h .2, tt)))),
       )

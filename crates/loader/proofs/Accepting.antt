@@ -1,7 +1,7 @@
 -- What an accepted load writes: the calls that write are met, and together write what they should; the load call's ways.
-use Prim.Native.Nat.{ℕ, suc, _-_, _≤_}
+use Prim.Native.Nat.{ℕ, _-_, _≤_}
 use mathlib.Core.Path.{_≡_, refl, sym, ap, _∙_}
-use mathlib.Core.List.{List, [], _∷_, _++_}
+use mathlib.Core.List.{List, _++_}
 use native.Mathlib.Omega.{arith}
 use lib.IntN.{ℤ, pos, natAbs}
 use lib.ListN.{length, take, drop}
@@ -10,13 +10,13 @@ use borrow.Author.Tests.{ne-eqb}
 use Rattle.sizes.specs.Sizes.{nodesSize}
 use Rattle.table.specs.Slots.{room}
 use Rattle.table.proofs.Tail.{tail-lent, tail-home}
-use Rattle.manifest.specs.Content.{Export as ExportRecord}
 use Rattle.manifest.specs.Judged.{exportsOf}
 use Rattle.nodes.specs.Records.{nodesOf, count}
 use Rattle.nodes.specs.Links.{Placing}
 use Rattle.bundle.specs.declared.references.Reference.the-variants.{Export}
 use Rattle.bundle.specs.Directory.{manifestSection, nodesSection}
 use Rattle.bundle.specs.References.{exportHashes, hashesFrom}
+use Rattle.bundle.proofs.Hashes.{export-hashes-length}
 use Rattle.bundle.proofs.Stages.{sound-shaped, sound-closed, sound-whole}
 use Rattle.loader.specs.declared.LoadAnswer.{LoadAnswer}
 use Rattle.loader.specs.declared.LoadAnswer.the-variants.{Refused, Accepted}
@@ -25,11 +25,6 @@ use Rattle.loader.specs.Load.{recordsIn, loadRefusal, loaded, exportsWri
 use Rattle.loader.specs.Ready.{Slotted, Ready, Loadable}
 use Rattle.loader.proofs.Fitting.{fit-room}
 use Rattle.loader.proofs.Refusals.{nodes-counted, bundle-clear, table-fits, exports-fit}
-
-hashes-long : (es : List ExportRecord) → length (exportHashes es) ≡ length es
-unfolding exportHashes
-hashes-long [] = refl
-hashes-long (e ∷ es) = ap suc (hashes-long es)
 
 -- s stands for the nodes section, as the call answered it
 module _ (file w out links slots : List ℕ) (h : Loadable file w out links slots) {s : List ℕ}
@@ -58,7 +53,7 @@ module _ (file w out links slots : List ℕ) (h : Loadable file w out links slot
   module _ {m : List ℕ} (em : m ≡ manifestSection file) {k : ℕ} (at : ℕ) (ek : k ≡ length (exportsOf m))
       (eh : hashesFrom m Export k at ≡ exportHashes (exportsOf m)) where
     pub exports-ready : Slotted (nodesOf s) slots × (k ≤ length out) × (length (hashesFrom m Export k at) ≡ k)
-    exports-ready = (slotted, rw (ek, em) (h .space), ap length eh ∙ hashes-long (exportsOf m) ∙ sym ek)
+    exports-ready = (slotted, rw (ek, em) (h .space), ap length eh ∙ export-hashes-length (exportsOf m) ∙ sym ek)
 
     -- v and u stand for the tables that the calls left
     pub accepted : {v u : List ℕ} {n : ℕ} → v ≡ written (nodesOf s) 0 (nodesOf s) w →

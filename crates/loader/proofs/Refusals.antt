@@ -12,7 +12,7 @@ use Rattle.nodes.specs.Records.{count}
 use Rattle.bundle.specs.Directory.{manifestSection, nodesSection}
 use Rattle.bundle.specs.Checks.{firstOf, headerChecks, directoryChecks, manifestChecks, nodeChecks}
 use Rattle.bundle.specs.Checks.{nameChecks, checks, refusal}
-use Rattle.bundle.proofs.Rows.{Clear, clear-first, first-clear, clear-parts}
+use Rattle.bundle.proofs.Rows.{Ascends, Clear, clear-first, first-clear, clear-parts}
 use Rattle.bundle.proofs.Stages.{first-found, clear-joined, sound-clear, sound-shaped}
 use Rattle.loader.specs.Load.{recordsIn, exportsIn, unfit, crowded, loadChecks, loadRefusal}
 use Rattle.loader.proofs.Writing.{count-is}
@@ -54,11 +54,16 @@ module _ (file w : List ℕ) (base : ℤ) (out : List ℕ) where
           unfolding crowded
           by-none l = rw (past-bundle, ← unfit-is, h, ← em, ← ek, le-ltb (length out) k l)
 
+  -- the numbers of the rows ascend
+  pub load-ascends : Ascends 0 (loadChecks file w base out)
+  unfolding loadChecks checks nameChecks headerChecks directoryChecks manifestChecks nodeChecks
+  load-ascends = omega arith
+
   -- where none answers; r stands for the answer of all
   module _ {r : ℕ} (e : r ≡ loadRefusal file w base out) (y : r ≡ 0) where
-    all-clear : Clear (loadChecks file w base out)
-    unfolding loadRefusal loadChecks checks nameChecks headerChecks directoryChecks manifestChecks nodeChecks
-    all-clear = first-clear 0 (loadChecks file w base out) (omega arith) (sym e ∙ y)
+    pub all-clear : Clear (loadChecks file w base out)
+    unfolding loadRefusal
+    all-clear = first-clear 0 (loadChecks file w base out) load-ascends (sym e ∙ y)
 
     pub bundle-clear : refusal file ≡ 0
     unfolding loadChecks refusal

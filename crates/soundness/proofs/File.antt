@@ -23,7 +23,7 @@ use Rattle.soundness.proofs.Directory.{entries-exactly, once-exactly}
 use Rattle.soundness.proofs.References.{resolved-exactly}
 
 -- a test that cannot hold does not
-false-of : (b : Bool) → (b ≡ true → ⊥) → b ≡ false
+pub false-of : (b : Bool) → (b ≡ true → ⊥) → b ≡ false
 false-of true n = absurd (n refl)
 false-of false n = refl
 

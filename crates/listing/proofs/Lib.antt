@@ -1,0 +1,7 @@
+pub mod Putting
+pub mod Decimal
+pub mod Lines
+pub mod Exports
+pub mod ExportLines
+pub mod Loads
+pub mod Examples
