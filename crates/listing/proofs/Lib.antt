@@ -5,3 +5,4 @@ pub mod Exports
 pub mod ExportLines
 pub mod Loads
 pub mod Examples
+pub mod AnyLength

@@ -11,8 +11,7 @@ mod report;
 mod text;
 
 // Puts the text for an input at the start of out, and answers how many bytes it has. The bytes behind it stay.
-pub fn list(input: &[u8], out: &mut [u8]) -> usize
-    requires { ⌜ 4096 ≤ length (now out) ⌝ }
+pub fn list(input: &[u8], out: &mut [u8; 4096]) -> usize
     ensures { λ r. ⌜ (r ≤ length (now (out .exit))) × (take r (now (out .exit)) ≡ listing (now (input .entry)))
         × (drop r (now (out .exit)) ≡ drop r (now (out .entry))) ⌝ }
 {

@@ -30,7 +30,7 @@ module _ (file w : List ℕ) (base : ℤ) (out : List ℕ) where
     by-bundle n = first-found (checks file) _ e n
 
     module _ (y : r ≡ 0) where
-      past-bundle : loadRefusal file w base out ≡
+      pub past-bundle : loadRefusal file w base out ≡
           cond {A = ℕ} (unfit w base (length (recordsIn file))) 21 (cond (crowded out (length (exportsIn file))) 22 0)
       unfolding loadRefusal loadChecks firstOf
       past-bundle = clear-joined (checks file) _ (sound-clear file e y)

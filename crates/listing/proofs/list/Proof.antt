@@ -34,22 +34,17 @@ put-accepted-requires c κs =
       omega arith,
     )
 
-same-length : tie.Need-same-length
-same-length c = search needs
-
 returns : tie.Need-returns
 returns c =
-    let answered = c .before .before .before .before .before .before .before .before .before .load in
-    at-start (c .before .before .put-refused .ensures) (listing-refused _ (answered .ensures) (c .before .before .before .before .before .answer .given .1))
-
-same-length-2 : tie.Need-same-length-2
-same-length-2 c = search needs
+    let answered = c .before .before .before .before .before .before .before .load in
+    at-start (c .put-refused .ensures)
+    (listing-refused _ (answered .ensures) (c .before .before .before .answer .given .1))
 
 returns-2 : tie.Need-returns-2
 returns-2 c =
-    let answered = c .before .before .before .before .before .before .before .before .before .before .load in
-    at-start (c .before .before .put-accepted .ensures)
-    (listing-accepted _ (answered .ensures) (c .before .before .before .before .before .before .answer2 .given .1))
+    let answered = c .before .before .before .before .before .before .before .before .load in
+    at-start (c .put-accepted .ensures)
+    (listing-accepted _ (answered .ensures) (c .before .before .before .before .answer2 .given .1))
 
 pub list-spec : {M : Type 1} → statement M
 list-spec =
@@ -63,7 +58,5 @@ list-spec =
     enum-known-answer-2
     slice-aggregate-put-accepted
     put-accepted-requires
-    same-length
     returns
-    same-length-2
     returns-2)

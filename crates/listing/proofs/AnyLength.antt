@@ -1,0 +1,26 @@
+-- What is behind the first byte too many makes no difference.
+use Prim.Native.Nat.{ℕ, suc, _≤_, _<_}
+use mathlib.Core.Path.{_≡_, sym, ap, _∙_}
+use mathlib.Core.List.{List}
+use native.Mathlib.Omega.{arith}
+use native.Mathlib.Decide.{decLt}
+use lib.ListN.{length, take, length-take}
+use lib.Seq.{take-all}
+use borrow.Author.Tests.{lt-ltb}
+use Rattle.sizes.specs.Sizes.{fileSize}
+use Rattle.bundle.specs.Header.{tooLong}
+use Rattle.bundle.specs.Checks.{firstOf, headerChecks, nameChecks, checks}
+use Rattle.loader.specs.Load.{loadChecks, loadRefusal, load}
+use Rattle.listing.specs.Listing.{refusedLine, report, listing, AnyLength}
+
+pub too-long : (input : List ℕ) → fileSize .most < length input → listing input ≡ refusedLine 1
+unfolding listing report load loadRefusal loadChecks checks nameChecks headerChecks firstOf tooLong
+too-long input h = rw (lt-ltb (fileSize .most) (length input) h)
+
+pub any-length : AnyLength
+any-length input =
+    elim (decLt (fileSize .most) (length input)) [
+      | yes h ↦
+          too-long (take (suc (fileSize .most)) input) (simp length-take (omega arith)) ∙ sym (too-long input h)
+      | no h ↦ ap listing (take-all (suc (fileSize .most)) input (omega (arith, h)))
+    ]
