@@ -8,8 +8,9 @@ use lib.IntN.{pos}
 use Rattle.calculus.specs.Tree.{Tree}
 use Rattle.table.specs.Slots.{room}
 use Rattle.table.proofs.SlotLaws.{room-long}
-use Rattle.soundness.proofs.Meaning.{names-refused}
+use Rattle.soundness.proofs.Meaning.{names-refused, name-by-index, no-such-name}
 use Rattle.soundness.proofs.Meaning as checks
+use Rattle.loader.specs.Answer.{numbers}
 use Rattle.guarantees.specs.Session.{Request, Holding, AllAlike}
 use Rattle.guarantees.specs.Demands.{Demand1, Demand2, AllRuns, Demand3}
 use Rattle.guarantees.proofs.RefusalKeeps.{refusal-keeps}
@@ -31,10 +32,12 @@ demand-1 =
       run-refused = refused-exactly;
       run-kept = refusal-keeps;
       names-refused = names-refused;
+      name-by-index = name-by-index;
+      no-such-name = no-such-name;
       load-blind = load-blind;
       run-blind = base-blind;
-      load-zero = λ file words words′ base exports exports′ n m e.
-          let l = load-leaves file words words′ base exports exports′ n m e in
+      load-zero = λ file words words′ base exports exports′ a e z.
+          let l = load-leaves file words words′ base exports exports′ a e z in
           (l .at, l .base-is, has-leaf (l .holding .zero));
       run-zero = run-zero;
     }
@@ -58,11 +61,11 @@ module _ (before w v : List ℕ) (b most used : ℕ) (store : List Tree) where
       rw (← long, ← whole, same) (session-simulates before w used store good requests)
 
 all-runs : AllRuns
-all-runs file words words′ base exports exports′ n m e =
-    let l = load-leaves file words words′ base exports exports′ n m e in
+all-runs file words words′ base exports exports′ a e z =
+    let l = load-leaves file words words′ base exports exports′ a e z in
     let v = drop (l .at) words′ in (
       l,
-      goes-on (take (l .at) words) v words′ (l .at) (room (drop (l .at) words)) n (l .store)
+      goes-on (take (l .at) words) v words′ (l .at) (room (drop (l .at) words)) (numbers a .nodes) (l .store)
           (length-take-le (l .at) words (l .inside))
           (ap (λ (x : List ℕ). x ++ v) (sym (l .before)) ∙ take-append-drop (l .at) words′)
           (sym (room-long (drop (l .at) words) v (l .untouched .long)))

@@ -22,10 +22,11 @@ use Rattle.soundness.proofs.ManifestMeaning.{reads-exports}
 use Rattle.soundness.proofs.NodesMeaning.{reads-nodes}
 use Rattle.soundness.proofs.File.{false-of, clear-sound, sound-clear}
 use Rattle.soundness.proofs.Lowest.{first-lowest}
-use Rattle.loader.specs.declared.LoadAnswer.the-variants.{Refused, Accepted}
+use Rattle.loader.specs.declared.LoadAnswer.the-variants.{Refused}
+use Rattle.loader.specs.Answer.{numbers}
 use Rattle.loader.specs.Load.{unfit, crowded, loadChecks, loadRefusal, Loaded, loaded, behind, accept, acceptFrom, load}
 use Rattle.loader.proofs.Refusals.{load-ascends}
-use Rattle.guarantees.specs.Load.{Unfit, base-negative, base-past, small-room, Loadable, IsAccepted, AcceptedExactly, RefusedByLowest}
+use Rattle.guarantees.specs.Load.{Unfit, base-negative, Loadable, answerOf, AcceptedExactly, RefusedByLowest}
 use Rattle.guarantees.proofs.LoadVerdict.{fits-exactly, unrefused-exactly, load-unrefused, load-refused}
 
 -- the records and exports that are read are the bundle's
@@ -63,19 +64,19 @@ module _ (file w : List ℕ) (base : ℤ) (out : List ℕ) where
       )
 
   -- what is accepted has a base in the table
-  accept-at : (n : ℕ) → (Unfit w n base → ⊥) → (z : ℤ) → base ≡ z → IsAccepted (acceptFrom file w z out)
+  accept-at : (n : ℕ) → (Unfit w n base → ⊥) → (z : ℤ) → base ≡ z → answerOf (acceptFrom file w z out) .number ≡ 0
   unfolding acceptFrom accept
   accept-at n fits (negsuc b) e = absurd (fits (rw e base-negative))
-  accept-at n fits (pos b) e = tt
+  accept-at n fits (pos b) e = refl
 
-  accepted : IsAccepted (load file w base out) → Loadable file w base out
-  accepted a =
+  accepted : answerOf (load file w base out) .number ≡ 0 → Loadable file w base out
+  accepted z =
       elim (ℕ-discrete (loadRefusal file w base out) 0) [
         | yes e ↦ unrefused-loadable e
-        | no n ↦ absurd (subst IsAccepted (load-refused file w base out n) a)
+        | no n ↦ absurd (n (sym (ap (λ (l : Loaded). answerOf l .number) (load-refused file w base out n)) ∙ z))
       ]
 
-  is-accepted : Loadable file w base out → IsAccepted (load file w base out)
+  is-accepted : Loadable file w base out → answerOf (load file w base out) .number ≡ 0
   is-accepted l =
       rw (load-unrefused file w base out (loadable-unrefused l))
       (accept-at (length (l .sound .nodes)) (l .fits) base refl)
@@ -100,31 +101,29 @@ load-most file w base out = omega arith
 
 pub refused-by-lowest : RefusedByLowest
 unfolding loadRefusal
-refused-by-lowest file words words′ base exports exports′ n e =
+refused-by-lowest file words words′ base exports exports′ a e n =
     elim (ℕ-discrete (loadRefusal file words base exports) 0) [
       | yes z ↦
-          let a = accepted-exactly file words base exports .1 (unrefused-loadable file words base exports z) in
-          absurd (subst IsAccepted e a)
+          let q = accepted-exactly file words base exports .1 (unrefused-loadable file words base exports z) in
+          absurd (n (sym (ap (λ (l : Loaded). answerOf l .number) e) ∙ q))
       | no d ↦
           let f = sym (load-refused file words base exports d) ∙ e in
-          let g : firstOf (loadChecks file words base exports) ≡ n = cc in
-          go g (cc) (cc) d (first-lowest 0 (loadChecks file words base exports) (load-ascends file words base exports))
+          go (cc) (cc) (cc) (first-lowest 0 (loadChecks file words base exports) (load-ascends file words base exports)) d
     ]
   where
-    go : firstOf (loadChecks file words base exports) ≡ n → words′ ≡ words → exports′ ≡ exports →
-        (firstOf (loadChecks file words base exports) ≡ 0 → ⊥) →
+    go : Refused (firstOf (loadChecks file words base exports)) ≡ a → words′ ≡ words → exports′ ≡ exports →
         (firstOf (loadChecks file words base exports) ≡ 0) ⊎
         Lowest (loadChecks file words base exports) (firstOf (loadChecks file words base exports)) →
-        Lowest (loadChecks file words base exports) n × (1 ≤ n) × (n ≤ 22) × (words′ ≡ words) × (exports′ ≡ exports)
-    go g p q d (inl z) = absurd (d z)
-    go g p q d (inr l) =
-        let low = rw g at l in (
-          low,
-          elim (ℕ-discrete n 0) [
-            | yes z ↦ absurd (d (g ∙ z))
-            | no m ↦ omega (arith, m)
-          ],
-          omega (arith, low .number, at-most (load-most file words base exports) (low .listed)),
+        (firstOf (loadChecks file words base exports) ≡ 0 → ⊥) →
+        Lowest (loadChecks file words base exports) (numbers a .number) × (numbers a .number ≤ 22)
+        × (numbers a .nodes ≡ 0) × (numbers a .exports ≡ 0) × (words′ ≡ words) × (exports′ ≡ exports)
+    go q p r (inl z) d = absurd (d z)
+    go q p r (inr l) d =
+        rw (← q) (
+          l,
+          omega (arith, l .number, at-most (load-most file words base exports) (l .listed)),
+          refl,
+          refl,
           p,
-          q,
+          r,
         )

@@ -25,11 +25,13 @@ use Rattle.soundness.specs.Sound.{Sound}
 use Rattle.soundness.proofs.File.{few-nodes}
 use Rattle.soundness.proofs.NodesCircles.{short-exactly}
 use Rattle.soundness.proofs.Meaning.{one-tree-each}
+use Rattle.loader.specs.declared.LoadAnswer.{LoadAnswer}
 use Rattle.loader.specs.declared.LoadAnswer.the-variants.{Refused, Accepted}
+use Rattle.loader.specs.Answer.{numbers}
 use Rattle.loader.specs.Written.{slotNamed, written, slotsNamed}
 use Rattle.loader.specs.Load.{unfit, loadRefusal, loaded, exportsWritten, accept, acceptFrom, load}
 use Rattle.guarantees.specs.Order.{Placing, leaf-record, next-record, TreesOf, none, more}
-use Rattle.guarantees.specs.Load.{IsAccepted, NamedSlot, Loads, LoadLeaves}
+use Rattle.guarantees.specs.Load.{NamedSlot, Loads, LoadLeaves}
 use Rattle.guarantees.proofs.PlacingOrder.{among-hash, earliest-among, order, order-long, in-order}
 use Rattle.guarantees.proofs.OneLeaf.{one-leaf}
 use Rattle.guarantees.proofs.LoadedTable.{named-holds, slot-order, written-untouched, table-holds}
@@ -135,7 +137,7 @@ module _ (file w out : List ℕ) (b : ℕ) (sound : Sound file) (inside : b ≤ 
   left-table : drop b left ≡ table
   left-table = drop-at (take b w) table b (length-take-le b w inside)
 
-  pub loads : Loads file w (pos b) out left (exportsWritten rs es out) (length rs) (length es)
+  pub loads : Loads file w (pos b) out left (exportsWritten rs es out) (numbers (Accepted (length rs) (length es)))
   unfolding exportsWritten
   loads =
       let is-order = in-order rs few (sound .distinct) (sound .closed) whole some in
@@ -147,8 +149,9 @@ module _ (file w out : List ℕ) (b : ℕ) (sound : Sound file) (inside : b ≤ 
         at = b;
         base-is = refl;
         inside = inside;
-        nodes-are = refl;
-        listed-are = refl;
+        number = refl;
+        nodes = refl;
+        listed = refl;
         order = placedAll;
         in-order = is-order;
         store = store;
@@ -182,26 +185,26 @@ module _ (file w out : List ℕ) (base : ℤ) (e : loadRefusal file w base out �
       load-unrefused file w base out e ∙ rw (q, nodes-read sound, exports-read sound)
 
 pub load-leaves : LoadLeaves
-load-leaves file words words′ base exports exports′ n m e =
+load-leaves file words words′ base exports exports′ a e y =
     elim (ℕ-discrete (loadRefusal file words base exports) 0) [
-      | no d ↦ absurd (subst IsAccepted (sym e ∙ load-refused file words base exports d) tt)
+      | no d ↦
+          let f = sym (load-refused file words base exports d) ∙ e in
+          let q : Refused (loadRefusal file words base exports) ≡ a = cc in
+          absurd (d (ap (λ (x : LoadAnswer). numbers x .number) q ∙ y))
       | yes z ↦
           let l = unrefused-loadable file words base exports z in
           let sound = l .sound in
           let (_, r21, _) = unrefused-exactly file words base exports .0 z in
           let r : unfit words base (length (sound .nodes)) ≡ false = rw (nodes-read sound) at r21 in
           let (b, q, inside, fits) = fitting words base _ r in
-          let f = sym (accepted-as file words exports base z sound b q) ∙ e in
-          let whole = loads file words exports b sound inside fits (l .space) in
-          go b q f whole
+          go b q (sym (accepted-as file words exports base z sound b q) ∙ e)
+          (loads file words exports b sound inside fits (l .space))
     ]
   where
-    go : {w v : List ℕ} {k j : ℕ} (b : ℕ) → base ≡ pos b →
-        loaded w v (Accepted k j) ≡ loaded words′ exports′ (Accepted n m) →
-        Loads file words (pos b) exports w v k j → Loads file words base exports words′ exports′ n m
-    go {w} {v} {k} {j} b q f l =
+    go : {w v : List ℕ} {c : LoadAnswer} (b : ℕ) → base ≡ pos b → loaded w v c ≡ loaded words′ exports′ a →
+        Loads file words (pos b) exports w v (numbers c) → Loads file words base exports words′ exports′ (numbers a)
+    go {w} {v} {c} b q f l =
         let x : w ≡ words′ = cc in
         let y : v ≡ exports′ = cc in
-        let s : k ≡ n = cc in
-        let t : j ≡ m = cc in
-        rw (q, ← x, ← y, ← s, ← t) l
+        let s : c ≡ a = cc in
+        rw (q, ← x, ← y, ← s) l

@@ -11,9 +11,10 @@ use Rattle.table.specs.Holds.{Has}
 use Rattle.engine.specs.declared.RunAnswer.{RunAnswer}
 use Rattle.engine.specs.declared.RunAnswer.the-variants.{Refused as RunRefused, Done, Stopped}
 use Rattle.engine.specs.Run.{ran, run}
-use Rattle.soundness.specs.Meaning.{NamesRefused}
+use Rattle.soundness.specs.Meaning.{NamesRefused, NameByIndex, NoSuchName}
 use Rattle.soundness.specs.Meaning as checks
-use Rattle.loader.specs.declared.LoadAnswer.the-variants.{Accepted}
+use Rattle.loader.specs.declared.LoadAnswer.{LoadAnswer}
+use Rattle.loader.specs.Answer.{numbers}
 use Rattle.loader.specs.Load.{loaded, load}
 use Rattle.guarantees.specs.Run.{RefusalKeeps, RefusedExactly, BaseBlind, DoneStays}
 use Rattle.guarantees.specs.Session.{Request, AllAlike}
@@ -35,14 +36,16 @@ pub record Demand1 : Type 0 where
   pub load-refused : RefusedByLowest
   pub run-refused : RefusedExactly
   pub run-kept : RefusalKeeps
-  -- a call asked for a name answers the empty part
+  -- a call asked for a name answers the empty part, also where there is no such index; one asked for an index, 25
   pub names-refused : NamesRefused
+  pub name-by-index : NameByIndex
+  pub no-such-name : NoSuchName
   -- nothing before our part of the table is written or looked at
   pub load-blind : LoadBlind
   pub run-blind : BaseBlind
   -- slot zero is the leaf after every accepted load and every run that was let start
-  pub load-zero : (file words words′ : List ℕ) (base : ℤ) (exports exports′ : List ℕ) (nodes listed : ℕ) →
-      load file words base exports ≡ loaded words′ exports′ (Accepted nodes listed) → ZeroIsLeaf base words′
+  pub load-zero : (file words words′ : List ℕ) (base : ℤ) (exports exports′ : List ℕ) (a : LoadAnswer) →
+      load file words base exports ≡ loaded words′ exports′ a → numbers a .number ≡ 0 → ZeroIsLeaf base words′
   pub run-zero : (words words′ jobs jobs′ : List ℕ) (base f x : ℤ) (used fuel : ℕ) (a : RunAnswer) →
       run words base f x used fuel jobs ≡ ran words′ jobs′ a → Started a → ZeroIsLeaf base words′
 
@@ -62,12 +65,12 @@ pub record Demand2 : Type 0 where
 -- requests, with the store that starts with the records' trees in the order of placing.
 abbrev pub AllRuns : Type 0
 AllRuns =
-    (file words words′ : List ℕ) (base : ℤ) (exports exports′ : List ℕ) (nodes listed : ℕ) →
-    load file words base exports ≡ loaded words′ exports′ (Accepted nodes listed) →
-    (l : Loads file words base exports words′ exports′ nodes listed) ×
+    (file words words′ : List ℕ) (base : ℤ) (exports exports′ : List ℕ) (a : LoadAnswer) →
+    load file words base exports ≡ loaded words′ exports′ a → numbers a .number ≡ 0 →
+    (l : Loads file words base exports words′ exports′ (numbers a)) ×
     ((requests : List Request) →
-    AllAlike (l .at) (room (drop (l .at) words)) (take (l .at) words) (record { words = words′; used = nodes }) (l .store)
-    requests)
+    AllAlike (l .at) (room (drop (l .at) words)) (take (l .at) words) (record { words = words′; used = numbers a .nodes })
+    (l .store) requests)
 
 pub record Demand3 : Type 0 where
   pub all-runs : AllRuns

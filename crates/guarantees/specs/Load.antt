@@ -15,7 +15,8 @@ use Rattle.bundle.specs.References.{exportHashes}
 use Rattle.soundness.specs.Graph.{Names}
 use Rattle.soundness.specs.Sound.{Sound}
 use Rattle.soundness.specs.Meaning.{Lowest}
-use Rattle.loader.specs.declared.LoadAnswer.the-variants.{Refused, Accepted}
+use Rattle.loader.specs.declared.LoadAnswer.{LoadAnswer}
+use Rattle.loader.specs.Answer.{Numbers, numbers}
 use Rattle.loader.specs.Load.{unfit, crowded, loadChecks, Loaded, loaded, load}
 use Rattle.guarantees.specs.Order.{Order, TreesOf}
 use Rattle.guarantees.specs.Run.{SameFrom, beforeBase}
@@ -41,23 +42,23 @@ pub record Loadable (file words : List ℕ) (base : ℤ) (exports : List ℕ) : 
   pub fits : Unfit words (length (sound .nodes)) base → ⊥
   pub space : length (sound .described .manifest .exports) ≤ length exports
 
--- the call answers an accepted load
-abbrev pub IsAccepted : Loaded → Type 0
-IsAccepted (loaded words exports (Refused n)) = ⊥
-IsAccepted (loaded words exports (Accepted nodes listed)) = Unit {0}
+-- the numbers that the call answers
+abbrev pub answerOf : Loaded → Numbers
+answerOf (loaded words exports a) = numbers a
 
--- A load is accepted exactly when the bundle is sound, within the limits, and fits.
+-- A load is accepted, which is answered with 0, exactly when the bundle is sound, within the limits, and fits.
 abbrev pub AcceptedExactly : Type 0
 AcceptedExactly =
     (file words : List ℕ) (base : ℤ) (exports : List ℕ) →
-    IsAccepted (load file words base exports) ↔ Loadable file words base exports
+    (answerOf (load file words base exports) .number ≡ 0) ↔ Loadable file words base exports
 
--- Any other is answered by the lowest number that applies, which is one of the list; and no word is changed.
+-- Any other is answered by the lowest number that applies, one of the list, with every other number 0; and no word is changed.
 abbrev pub RefusedByLowest : Type 0
 RefusedByLowest =
-    (file words words′ : List ℕ) (base : ℤ) (exports exports′ : List ℕ) (n : ℕ) →
-    load file words base exports ≡ loaded words′ exports′ (Refused n) →
-    Lowest (loadChecks file words base exports) n × (1 ≤ n) × (n ≤ 22) × (words′ ≡ words) × (exports′ ≡ exports)
+    (file words words′ : List ℕ) (base : ℤ) (exports exports′ : List ℕ) (a : LoadAnswer) →
+    load file words base exports ≡ loaded words′ exports′ a → (numbers a .number ≡ 0 → ⊥) →
+    Lowest (loadChecks file words base exports) (numbers a .number) × (numbers a .number ≤ 22)
+    × (numbers a .nodes ≡ 0) × (numbers a .exports ≡ 0) × (words′ ≡ words) × (exports′ ≡ exports)
 
 -- ---- what an accepted load leaves
 
@@ -68,36 +69,37 @@ pub record NamedSlot (rs order : List Node) (table : List ℕ) (k : ℕ) (h : Li
   pub holds : Holds table (length rs) k tree
   pub placed : getD (hashes order) k [] ≡ h
 
--- words and exports are the tables before the load, words′ and exports′ those behind it, which are answered as having
--- `nodes` nodes and `listed` exports
-pub record Loads (file words : List ℕ) (base : ℤ) (exports words′ exports′ : List ℕ) (nodes listed : ℕ) : Type 0 where
+-- words and exports are the tables before the load, words′ and exports′ those behind it
+pub record Loads (file words : List ℕ) (base : ℤ) (exports words′ exports′ : List ℕ) (answer : Numbers) : Type 0 where
   pub sound : Sound file
   pub at : ℕ
   pub base-is : base ≡ pos at
   pub inside : at ≤ length words
-  pub nodes-are : nodes ≡ length (sound .nodes)
-  pub listed-are : listed ≡ length (sound .described .manifest .exports)
+  -- the answer is 0, the node count and the export count
+  pub number : answer .number ≡ 0
+  pub nodes : answer .nodes ≡ length (sound .nodes)
+  pub listed : answer .exports ≡ length (sound .described .manifest .exports)
   -- slot i holds the tree that the hash of the i-th placed record names; the used slots are sound, and slot zero is the leaf
   pub order : List Node
   pub in-order : Order (sound .nodes) order
   pub store : List Tree
   pub trees : TreesOf (sound .nodes) order store
-  pub holding : Holding (drop at words′) nodes store
+  pub holding : Holding (drop at words′) (answer .nodes) store
   -- all other words stay, also those before the base
   pub before : take at words′ ≡ take at words
-  pub untouched : Untouched (drop at words) 0 (drop at words′) nodes
+  pub untouched : Untouched (drop at words) 0 (drop at words′) (answer .nodes)
   -- the word of each export is the slot of the tree that its hash names, in manifest order; the words behind them stay
-  pub export-slots : (i : ℕ) → i < listed →
+  pub export-slots : (i : ℕ) → i < answer .exports →
       NamedSlot (sound .nodes) order (drop at words′) (getD exports′ i 0)
       (getD (exportHashes (sound .described .manifest .exports)) i [])
   pub exports-long : length exports′ ≡ length exports
-  pub exports-rest : drop listed exports′ ≡ drop listed exports
+  pub exports-rest : drop (answer .exports) exports′ ≡ drop (answer .exports) exports
 
 abbrev pub LoadLeaves : Type 0
 LoadLeaves =
-    (file words words′ : List ℕ) (base : ℤ) (exports exports′ : List ℕ) (nodes listed : ℕ) →
-    load file words base exports ≡ loaded words′ exports′ (Accepted nodes listed) →
-    Loads file words base exports words′ exports′ nodes listed
+    (file words words′ : List ℕ) (base : ℤ) (exports exports′ : List ℕ) (a : LoadAnswer) →
+    load file words base exports ≡ loaded words′ exports′ a → numbers a .number ≡ 0 →
+    Loads file words base exports words′ exports′ (numbers a)
 
 -- A sound bundle has just one order of placing, and just one store: nothing is left open in what a load leaves.
 abbrev pub OneOrder : Type 0
