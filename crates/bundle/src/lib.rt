@@ -12,6 +12,8 @@ use crate::header::check_header;
 use crate::references::unresolved;
 use manifest_shape::Manifest;
 use nodes::faults::Fault;
+use nodes::links::LINK_WORDS;
+use nodes::links::SLOT_WORDS;
 
 pub mod directory;
 pub mod exports;
@@ -95,7 +97,7 @@ pub fn check_and_place(file: &[u8], links: &mut [u32], slots: &mut [u32]) -> u32
 pub fn check(file: &[u8]) -> u32
     ensures { λ r. ⌜ r ≡ refusal (now (file .entry)) ⌝ }
 {
-    let mut links: [u32; 1024] = [0; 1024];
-    let mut slots: [u32; 512] = [0; 512];
+    let mut links: [u32; LINK_WORDS] = [0; LINK_WORDS];
+    let mut slots: [u32; SLOT_WORDS] = [0; SLOT_WORDS];
     check_and_place(file, &mut links, &mut slots)
 }

@@ -11,6 +11,8 @@ use bundle::check_and_place;
 use bundle::directory::MANIFEST;
 use bundle::directory::NODES;
 use bundle::directory::section;
+use nodes::links::LINK_WORDS;
+use nodes::links::SLOT_WORDS;
 use nodes::records::count;
 
 mod exports;
@@ -79,8 +81,8 @@ pub fn load(file: &[u8], words: &mut [u32], base: i32, exports: &mut [u32]) -> L
     ensures { λ r. ⌜ loaded (now (words .exit)) (now (exports .exit)) r
         ≡ load (now (file .entry)) (now (words .entry)) base (now (exports .entry)) ⌝ }
 {
-    let mut links: [u32; 1024] = [0; 1024];
-    let mut slots: [u32; 512] = [0; 512];
+    let mut links: [u32; LINK_WORDS] = [0; LINK_WORDS];
+    let mut slots: [u32; SLOT_WORDS] = [0; SLOT_WORDS];
     let refused = refusal(file, words, base, exports, &mut links, &mut slots);
     if refused != 0 {
         return LoadAnswer::Refused(refused);

@@ -14,6 +14,11 @@ use crate::records::record_end;
 use wire::Found;
 use wire::Pos;
 
+// The words that placing works on: two links and a slot for as many records as there may be.
+pub const LINK_WORDS: usize = 1024;
+
+pub const SLOT_WORDS: usize = 512;
+
 // The number, plus one, of the record with a hash.
 fn link(s: &[u8], n: u64, h: &[u8]) -> u32
     requires { ⌜ n ≤ nodesSize .most ⌝ }
