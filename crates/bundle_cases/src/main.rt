@@ -1,38 +1,21 @@
 // Checks each bundle of a folder whose name the input has, and writes the number that is answered, the names of its exports
 // and where they start, and what the index by name answers of three names.
-ghost use Prim.Native.Nat.{_≤_};
-ghost use lib.ListN.{length};
 use bundle::exports::IndexAnswer;
-use libc::STDOUT_FILENO;
-
-fn text(t: &[u8]) {
-    io::write_all(STDOUT_FILENO, t);
-}
-
-fn decimal(n: u64) {
-    io::print_decimal(STDOUT_FILENO, n);
-}
-
-fn wide(b: u8) -> u64 {
-    b as u64
-}
-
-fn hex(t: &[u8]) {
-    let mut i = 0;
-    while i < t.len() {
-        io::print_hex(STDOUT_FILENO, wide(t[i]), 2);
-        i += 1;
-    }
-}
+use cases::files::line_end;
+use cases::files::read_file;
+use cases::output::decimal;
+use cases::output::hex;
+use cases::output::size;
+use cases::output::text;
 
 // The line of an export: its index, and its name's place in the file, length and bytes.
 fn show_name(i: u32, start: usize, name: &[u8]) {
     text(b"  ");
-    decimal(i as u64);
+    decimal(i);
     text(b" ");
-    decimal(start as u64);
+    size(start);
     text(b" ");
-    decimal(name.len() as u64);
+    size(name.len());
     text(b" ");
     hex(name);
     text(b"\n");
@@ -63,9 +46,9 @@ fn show_exports(file: &[u8]) {
 
 fn show_numbers(number: u32, index: usize) {
     text(b"  index ");
-    decimal(number as u64);
+    decimal(number);
     text(b" ");
-    decimal(index as u64);
+    size(index);
     text(b"\n");
 }
 
@@ -80,7 +63,7 @@ fn show_index(file: &[u8], name: &[u8]) {
 fn show_bundle(name: &[u8], file: &[u8]) {
     text(name);
     text(b" ");
-    decimal(bundle::check(file) as u64);
+    decimal(bundle::check(file));
     text(b"\n");
     show_exports(file);
     show_index(file, b"");
@@ -91,25 +74,8 @@ fn show_bundle(name: &[u8], file: &[u8]) {
 // The bundle in the file of that name; a byte more than is read of the largest.
 fn show_file(name: &[u8]) {
     let mut bytes: [u8; 65538] = [0; 65538];
-    let fd = os::open_read(name);
-    let n = io::read_full(fd, &mut bytes);
-    libc::close(fd);
+    let n = read_file(name, &mut bytes);
     show_bundle(name, &bytes[..n]);
-}
-
-// Where the line that starts at a place ends.
-fn line_end(s: &[u8], at: usize) -> usize
-    requires { ⌜ at ≤ length (now s) ⌝ }
-    ensures { λ r. ⌜ (at ≤ r) × (r ≤ length (now (s .entry))) ⌝ }
-{
-    let mut end = at;
-    while end < s.len() {
-        if s[end] == b'\n' {
-            return end;
-        }
-        end += 1;
-    }
-    end
 }
 
 // The files whose names stand in s, one to a line.

@@ -1,40 +1,23 @@
 // Writes, for each bundle of a folder whose name the input has, its name and the text for it.
-ghost use Prim.Native.Nat.{_≤_};
-ghost use lib.ListN.{length};
+use cases::files::line_end;
+use cases::files::read_file;
+use cases::output::text;
 use libc::STDIN_FILENO;
-use libc::STDOUT_FILENO;
 
 // Writes the text for an input.
 fn show(input: &[u8]) {
-    let mut text = io::buffer();
-    let n = listing::list(input, &mut text);
-    io::write_all(STDOUT_FILENO, &text[0..n]);
+    let mut lines = io::buffer();
+    let n = listing::list(input, &mut lines);
+    text(&lines[0..n]);
 }
 
 // The bundle in the file of that name; a byte more than the largest has is read.
 fn show_file(name: &[u8]) {
     let mut bytes: [u8; 65537] = [0; 65537];
-    let fd = os::open_read(name);
-    let n = io::read_full(fd, &mut bytes);
-    libc::close(fd);
-    io::write_all(STDOUT_FILENO, name);
-    io::write_all(STDOUT_FILENO, b"\n");
+    let n = read_file(name, &mut bytes);
+    text(name);
+    text(b"\n");
     show(&bytes[..n]);
-}
-
-// Where the line that starts at a place ends.
-fn line_end(s: &[u8], at: usize) -> usize
-    requires { ⌜ at ≤ length (now s) ⌝ }
-    ensures { λ r. ⌜ (at ≤ r) × (r ≤ length (now (s .entry))) ⌝ }
-{
-    let mut end = at;
-    while end < s.len() {
-        if s[end] == b'\n' {
-            return end;
-        }
-        end += 1;
-    }
-    end
 }
 
 // The files whose names stand in s, one to a line.

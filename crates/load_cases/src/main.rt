@@ -1,34 +1,22 @@
 // Loads each bundle that the input names into tables that are filled before, makes the runs that stand behind it on the same
 // table, and writes what load and run answer and what the tables hold then.
 ghost use Prim.Native.Nat.{_≤_};
+use cases::answers::run_line;
+use cases::files::read_file;
+use cases::input::at_most;
+use cases::input::behind;
+use cases::input::number;
+use cases::input::signed;
+use cases::output::decimal;
+use cases::output::hex;
+use cases::output::show_table;
+use cases::output::size;
+use cases::output::text;
 use engine::RunAnswer;
-use libc::STDOUT_FILENO;
 use loader::LoadAnswer;
 use sha256::Running;
 use std::num::wrapping_add_u32;
 use std::num::wrapping_add_usize;
-use wire::Num;
-
-fn text(t: &[u8]) {
-    io::write_all(STDOUT_FILENO, t);
-}
-
-fn decimal(n: u32) {
-    io::print_decimal(STDOUT_FILENO, n as u64);
-}
-
-fn size(n: usize) {
-    io::print_decimal(STDOUT_FILENO, n as u64);
-}
-
-// A slot of an answer; none is negative.
-fn slot(i: i32) {
-    if i < 0 {
-        text(b"negative");
-        return;
-    }
-    io::print_decimal(STDOUT_FILENO, i as u64);
-}
 
 // A signed number as it is sent, with 2^31 added.
 fn sent(n: u32) {
@@ -38,34 +26,6 @@ fn sent(n: u32) {
         return;
     }
     decimal(n - 2147483648);
-}
-
-fn signed(n: u32) -> i32 {
-    if n < 2147483648 {
-        let below = (2147483647 - n) as i32;
-        return !below;
-    }
-    (n - 2147483648) as i32
-}
-
-// The number at a place of the input; behind its end, 0.
-fn number(s: &[u8], at: usize) -> u32 {
-    let n = wire::u32_at(s, at);
-    match n {
-        Num::Value(v) => (v % 4294967296) as u32,
-        Num::Short => 0,
-    }
-}
-
-// A table's length, and no more than there is room for.
-fn at_most(n: u32, most: usize) -> usize
-    ensures { λ r. ⌜ r ≤ most ⌝ }
-{
-    if (n as usize) < most {
-        n as usize
-    } else {
-        most
-    }
 }
 
 // A place of the input, not before low and not behind high.
@@ -80,13 +40,6 @@ fn within(at: usize, low: usize, high: usize) -> usize
         return high;
     }
     at
-}
-
-// Where the number stands that is n numbers behind a place.
-fn behind(at: usize, n: usize) -> usize
-    requires { ⌜ n ≤ 4 ⌝ }
-{
-    wrapping_add_usize(at, 4 * n)
 }
 
 // How many words of a table stand before a base; the base is as it is sent.
@@ -106,29 +59,6 @@ fn fill(table: &mut [u32], first: u32) {
     while i < table.len() {
         table[i] = next;
         next = wrapping_add_u32(next, 1);
-        i += 1;
-    }
-}
-
-fn show_table(name: &[u8], table: &[u32]) {
-    text(name);
-    let mut i = 0;
-    while i < table.len() {
-        text(b" ");
-        decimal(table[i]);
-        i += 1;
-    }
-    text(b"\n");
-}
-
-fn wide(b: u8) -> u64 {
-    b as u64
-}
-
-fn hex(t: &[u8]) {
-    let mut i = 0;
-    while i < t.len() {
-        io::print_hex(STDOUT_FILENO, wide(t[i]), 2);
         i += 1;
     }
 }
@@ -210,9 +140,7 @@ fn show_loaded(a: LoadAnswer) -> u32 {
 // The bundle in the file of that name; a byte more than is read of the largest.
 fn load_file(name: &[u8], words: &mut [u32], base: i32, exports: &mut [u32]) -> LoadAnswer {
     let mut bytes: [u8; 65538] = [0; 65538];
-    let fd = os::open_read(name);
-    let n = io::read_full(fd, &mut bytes);
-    libc::close(fd);
+    let n = read_file(name, &mut bytes);
     loader::load(&bytes[..n], words, base, exports)
 }
 
@@ -242,33 +170,15 @@ fn show_call(f: u32, x: u32, used: u32, fuel: u32, jobs: usize) {
     text(b"\n");
 }
 
-fn line(number: u32, result: i32, f: i32, x: i32, steps: u32, used: u32, waiting: u32) {
-    text(b"answer ");
-    decimal(number);
-    text(b" slot ");
-    slot(result);
-    text(b" f ");
-    slot(f);
-    text(b" x ");
-    slot(x);
-    text(b" steps ");
-    decimal(steps);
-    text(b" used ");
-    decimal(used);
-    text(b" waiting ");
-    decimal(waiting);
-    text(b"\n");
-}
-
 // The paper's numbers of a run, those not named 0; answers the used count for the next run, which a refusal leaves.
 fn show_ran(a: RunAnswer, last: u32) -> u32 {
     match a {
         RunAnswer::Refused(number) => {
-            line(number, 0, 0, 0, 0, 0, 0);
+            run_line(number, 0, 0, 0, 0, 0, 0);
             last
         }
         RunAnswer::Done { slot, steps, used } => {
-            line(0, slot, 0, 0, steps, used, 0);
+            run_line(0, slot, 0, 0, steps, used, 0);
             used
         }
         RunAnswer::Stopped {
@@ -279,7 +189,7 @@ fn show_ran(a: RunAnswer, last: u32) -> u32 {
             used,
             waiting,
         } => {
-            line(number, 0, f, x, steps, used, waiting);
+            run_line(number, 0, f, x, steps, used, waiting);
             used
         }
     }

@@ -2,51 +2,19 @@
 ghost use mathlib.Core.Path.{_≡_};
 ghost use Prim.Native.Nat.{_≤_};
 ghost use lib.ListN.{length};
+use cases::answers::run_line;
+use cases::input::at_most;
+use cases::input::behind;
+use cases::input::number;
+use cases::input::signed;
+use cases::output::show_table;
 use engine::RunAnswer;
-use libc::STDOUT_FILENO;
-use std::num::wrapping_add_usize;
-use wire::Num;
-
-fn text(t: &[u8]) {
-    io::write_all(STDOUT_FILENO, t);
-}
-
-fn decimal(n: u32) {
-    io::print_decimal(STDOUT_FILENO, n as u64);
-}
-
-// A slot of an answer; none is negative.
-fn slot(i: i32) {
-    if i < 0 {
-        text(b"negative");
-        return;
-    }
-    io::print_decimal(STDOUT_FILENO, i as u64);
-}
-
-fn line(number: u32, result: i32, f: i32, x: i32, steps: u32, used: u32, waiting: u32) {
-    text(b"answer ");
-    decimal(number);
-    text(b" slot ");
-    slot(result);
-    text(b" f ");
-    slot(f);
-    text(b" x ");
-    slot(x);
-    text(b" steps ");
-    decimal(steps);
-    text(b" used ");
-    decimal(used);
-    text(b" waiting ");
-    decimal(waiting);
-    text(b"\n");
-}
 
 // The paper's numbers; those not named are 0.
 fn show_answer(a: RunAnswer) {
     match a {
-        RunAnswer::Refused(number) => line(number, 0, 0, 0, 0, 0, 0),
-        RunAnswer::Done { slot, steps, used } => line(0, slot, 0, 0, steps, used, 0),
+        RunAnswer::Refused(number) => run_line(number, 0, 0, 0, 0, 0, 0),
+        RunAnswer::Done { slot, steps, used } => run_line(0, slot, 0, 0, steps, used, 0),
         RunAnswer::Stopped {
             number,
             f,
@@ -54,55 +22,8 @@ fn show_answer(a: RunAnswer) {
             steps,
             used,
             waiting,
-        } => { line(number, 0, f, x, steps, used, waiting) }
+        } => { run_line(number, 0, f, x, steps, used, waiting) }
     }
-}
-
-fn show_table(name: &[u8], table: &[u32]) {
-    text(name);
-    let mut i = 0;
-    while i < table.len() {
-        text(b" ");
-        decimal(table[i]);
-        i += 1;
-    }
-    text(b"\n");
-}
-
-// The number at a place of the input; behind its end, 0.
-fn number(s: &[u8], at: usize) -> u32 {
-    let n = wire::u32_at(s, at);
-    match n {
-        Num::Value(v) => (v % 4294967296) as u32,
-        Num::Short => 0,
-    }
-}
-
-// A signed number is sent with 2^31 added.
-fn signed(n: u32) -> i32 {
-    if n < 2147483648 {
-        let below = (2147483647 - n) as i32;
-        return !below;
-    }
-    (n - 2147483648) as i32
-}
-
-// A table's length, and no more than there is room for.
-fn at_most(n: u32, most: usize) -> usize
-    ensures { λ r. ⌜ r ≤ most ⌝ }
-{
-    if (n as usize) < most {
-        n as usize
-    } else {
-        most
-    }
-}
-
-// Where the number stands that is n numbers behind a place.
-fn behind(at: usize, n: usize) -> usize
-    requires { ⌜ n ≤ 120 ⌝ }
-{
-    wrapping_add_usize(at, 4 * n)
 }
 
 // The numbers from a place on.

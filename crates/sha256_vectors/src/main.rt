@@ -4,25 +4,14 @@ ghost use mathlib.Core.Path.{_≡_};
 ghost use Prim.Native.Nat.{_≤_};
 ghost use lib.ListN.{length};
 ghost use Rattle.sha256_block.specs.Fips180.{sha256};
+use cases::output::hex;
+use cases::output::text;
 use sha256::Running;
 
-fn wide(b: u8) -> u64 {
-    b as u64
-}
-
-// A digest in hexadecimal.
-fn show(d: [u8; 32]) {
-    let mut i: usize = 0;
-    while i < 32 {
-        io::print_hex(1, wide(d[i]), 2);
-        i += 1;
-    }
-}
-
 fn vector(name: &[u8], d: [u8; 32]) {
-    io::write_all(1, name);
-    show(d);
-    io::write_all(1, b"\n");
+    text(name);
+    hex(&d);
+    text(b"\n");
 }
 
 // One million times the letter a, in parts of 1,000.
@@ -83,12 +72,12 @@ fn bytewise(m: &[u8]) -> [u8; 32]
 }
 
 fn line(m: &[u8]) {
-    show(sha256::digest(m));
-    io::write_all(1, b" ");
-    show(cuts(m));
-    io::write_all(1, b" ");
-    show(bytewise(m));
-    io::write_all(1, b"\n");
+    hex(&sha256::digest(m));
+    text(b" ");
+    hex(&cuts(m));
+    text(b" ");
+    hex(&bytewise(m));
+    text(b"\n");
 }
 
 fn each_length(m: &[u8]) {

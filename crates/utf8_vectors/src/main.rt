@@ -1,4 +1,9 @@
 // Runs the check on each case of the input and on every text of four families, and writes what it answers.
+use cases::output::decimal;
+use cases::output::hex;
+use cases::output::long;
+use cases::output::size;
+use cases::output::text;
 
 // How many texts a family has, how many of them are valid, and the sum of the places of the others.
 struct Tally {
@@ -11,30 +16,22 @@ fn wide(b: u8) -> usize {
     b as usize
 }
 
-fn show_bytes(s: &[u8]) {
-    let mut i = 0;
-    while i < s.len() {
-        io::print_hex(1, wide(s[i]) as u64, 2);
-        i += 1;
-    }
-}
-
 fn show_answer(r: utf8::Utf8) {
     match r {
         utf8::Utf8::Valid => {
-            io::write_all(1, b" valid\n");
+            text(b" valid\n");
         }
         utf8::Utf8::BadAt(n) => {
-            io::write_all(1, b" bad at ");
-            io::print_decimal(1, n as u64);
-            io::write_all(1, b"\n");
+            text(b" bad at ");
+            size(n);
+            text(b"\n");
         }
     }
 }
 
 // A case's line.
 fn show_case(s: &[u8]) {
-    show_bytes(s);
+    hex(s);
     show_answer(utf8::check(s));
 }
 
@@ -111,15 +108,15 @@ fn tallied(length: u8, total: u32) -> Tally {
 }
 
 fn show_tally(length: u8, t: Tally) {
-    io::write_all(1, b"length ");
-    io::print_decimal(1, length as u64);
-    io::write_all(1, b": ");
-    io::print_decimal(1, t.texts);
-    io::write_all(1, b" texts, ");
-    io::print_decimal(1, t.valid);
-    io::write_all(1, b" valid, places sum to ");
-    io::print_decimal(1, t.places);
-    io::write_all(1, b"\n");
+    text(b"length ");
+    decimal(length as u32);
+    text(b": ");
+    long(t.texts);
+    text(b" texts, ");
+    long(t.valid);
+    text(b" valid, places sum to ");
+    long(t.places);
+    text(b"\n");
 }
 
 fn main() {

@@ -1,6 +1,9 @@
 // Prints what wire reads in 24 fixed bytes: the numbers at each position, spans, and the tests of byte strings.
 // Positions and lengths run to 2 ^ 64 - 1, so that some sums would wrap.
-use libc::STDOUT_FILENO;
+use cases::output::hex;
+use cases::output::long;
+use cases::output::size;
+use cases::output::text;
 use wire::Num;
 use wire::Pos;
 
@@ -35,26 +38,6 @@ const LENGTHS: [usize; 14] = [
     18446744073709551615,
 ];
 
-fn wide(b: u8) -> u64 {
-    b as u64
-}
-
-fn text(t: &[u8]) {
-    io::write_all(STDOUT_FILENO, t);
-}
-
-fn decimal(n: usize) {
-    io::print_decimal(STDOUT_FILENO, n as u64);
-}
-
-fn hex(t: &[u8]) {
-    let mut i = 0;
-    while i < t.len() {
-        io::print_hex(STDOUT_FILENO, wide(t[i]), 2);
-        i += 1;
-    }
-}
-
 fn bytes(t: &[u8]) {
     text(b" [");
     hex(t);
@@ -73,7 +56,7 @@ fn number(x: Num) {
     match x {
         Num::Value(v) => {
             text(b" ");
-            io::print_decimal(STDOUT_FILENO, v);
+            long(v);
         }
         Num::Short => {
             text(b" short");
@@ -85,7 +68,7 @@ fn position(p: Pos) {
     match p {
         Pos::At(e) => {
             text(b" ends at ");
-            decimal(e);
+            size(e);
         }
         Pos::Past => {
             text(b" past the end");
@@ -95,7 +78,7 @@ fn position(p: Pos) {
 
 fn read(s: &[u8], at: usize) {
     text(b"numbers at ");
-    decimal(at);
+    size(at);
     number(wire::u8_at(s, at));
     number(wire::u16_at(s, at));
     number(wire::u32_at(s, at));
@@ -115,9 +98,9 @@ fn reads(s: &[u8], first: usize, last: usize) {
 
 fn span(s: &[u8], start: usize, n: usize) {
     text(b"span of ");
-    decimal(n);
+    size(n);
     text(b" at ");
-    decimal(start);
+    size(start);
     position(wire::span_end(s, start, n));
     bytes(wire::span(s, start, n));
     answer(wire::inside(s, start, n));
@@ -158,7 +141,7 @@ fn hold(s: &[u8], at: usize, t: &[u8]) {
     text(b"holds");
     bytes(t);
     text(b" at ");
-    decimal(at);
+    size(at);
     answer(wire::holds_at(s, at, t));
 }
 

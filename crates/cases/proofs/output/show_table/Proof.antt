@@ -2,8 +2,8 @@
 use Prim.Native.Nat.{_-_, _≤_}
 use lib.ListN.{length}
 use borrow.Author.Needs.{needs}
-use Rattle.load_cases.proofs.show_table.Statement.{statement}
-use Rattle.load_cases.proofs.show_table.Tie as tie
+use Rattle.cases.proofs.output.show_table.Statement.{statement}
+use Rattle.cases.proofs.output.show_table.Tie as tie
 
 abbrev Inv-loop : tie.InvT-loop
 Inv-loop name table i₀ t4 t5 i = i ≤ length table

@@ -3,8 +3,8 @@ use Prim.Native.Nat.{_-_, _≤_}
 use native.Mathlib.Omega.{arith}
 use borrow.Author.Needs.{needs}
 use lib.ListN.{length}
-use Rattle.listing_cases.proofs.line_end.Statement.{statement}
-use Rattle.listing_cases.proofs.line_end.Tie as tie
+use Rattle.cases.proofs.files.line_end.Statement.{statement}
+use Rattle.cases.proofs.files.line_end.Tie as tie
 
 abbrev Inv-loop : tie.InvT-loop
 Inv-loop s at end₀ end = (at ≤ end) × (end ≤ length s)

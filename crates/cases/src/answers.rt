@@ -1,0 +1,32 @@
+// The line of what a run answers.
+use crate::output::decimal;
+use crate::output::text;
+use libc::STDOUT_FILENO;
+
+// A slot of an answer; none is negative.
+fn slot(i: i32) {
+    if i < 0 {
+        text(b"negative");
+        return;
+    }
+    io::print_decimal(STDOUT_FILENO, i as u64);
+}
+
+// The paper's numbers of a run; those that an answer does not name are 0.
+pub fn run_line(number: u32, result: i32, f: i32, x: i32, steps: u32, used: u32, waiting: u32) {
+    text(b"answer ");
+    decimal(number);
+    text(b" slot ");
+    slot(result);
+    text(b" f ");
+    slot(f);
+    text(b" x ");
+    slot(x);
+    text(b" steps ");
+    decimal(steps);
+    text(b" used ");
+    decimal(used);
+    text(b" waiting ");
+    decimal(waiting);
+    text(b"\n");
+}
