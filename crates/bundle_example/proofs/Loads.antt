@@ -3,7 +3,7 @@ use Prim.Native.Nat.{ℕ}
 use mathlib.Core.Path.{_≡_, refl, ap, _∙_}
 use mathlib.Core.List.{List, [], _∷_, _++_, map}
 use mathlib.Core.Bool.{cond}
-use lib.ListN.{length, getD, take, drop, replicate}
+use lib.ListN.{getD, take, drop, replicate}
 use lib.Dec.{eqb}
 use lib.IntN.{ℤ, pos, negsuc}
 use Rattle.wire.specs.Wire.{bigEndian, inside, spanEnd, span, numberAt, sameBytes, holdsAt, indexOf, anyOf, ascii}
@@ -23,13 +23,13 @@ use Rattle.bundle.specs.References.{exportHashes}
 use Rattle.bundle.specs.Checks.{refusal}
 use Rattle.loader.specs.declared.LoadAnswer.the-variants.{Refused, Accepted}
 use Rattle.loader.specs.Written.{slotOf, slotNamed, nodeOf, written, slotsNamed}
-use Rattle.loader.specs.Load.{recordsIn, exportsIn, unfit, crowded, loadRefusal, Loaded, loaded, exportsWritten, behind, accept, acceptFrom, load}
+use Rattle.loader.specs.Load.{recordsIn, exportsIn, unfit, crowded, Loaded, loaded, exportsWritten, accept, acceptFrom, load}
 use Rattle.loader.proofs.Refusals.{past-bundle}
 use Rattle.listing.specs.Text.{digits, newline}
-use Rattle.listing.specs.Listing.{line, lines, refusedLine, okLine, report, listing}
+use Rattle.listing.specs.Listing.{line, lines, okLine, report, listing}
 use Rattle.bundle_example.specs.Leaf.{leafBundle}
 use Rattle.bundle_example.specs.Cases as changed
-use Rattle.bundle_example.specs.Loads.{Case, Seen, seenOf, cases, LoadsHold, Writes}
+use Rattle.bundle_example.specs.Loads.{Case, seenOf, cases, LoadsHold, Writes}
 use Rattle.bundle_example.proofs.Cases.{cases-hold}
 
 -- the hash of the leaf's record

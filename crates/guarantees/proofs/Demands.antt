@@ -4,7 +4,6 @@ use mathlib.Core.Path.{_≡_, sym, ap, _∙_}
 use mathlib.Core.List.{List, _++_}
 use lib.ListN.{length, take, drop, take-append-drop}
 use lib.Seq.{length-take-le}
-use lib.IntN.{pos}
 use Rattle.calculus.specs.Tree.{Tree}
 use Rattle.table.specs.Slots.{room}
 use Rattle.table.proofs.SlotLaws.{room-long}

@@ -1,13 +1,12 @@
 -- A load is accepted exactly where no check holds, which is where the bundle is sound and fits; any other is refused by the lowest
 -- number that applies.
-use Prim.Native.Nat.{ℕ, _≤_, _<_}
-use mathlib.Core.Path.{_≡_, refl, sym, ap, _∙_, subst}
-use mathlib.Core.Bool.{Bool, true, false}
+use Prim.Native.Nat.{ℕ, _≤_}
+use mathlib.Core.Path.{_≡_, refl, sym, ap, _∙_}
 use mathlib.Core.List.{List, [], _∷_}
 use mathlib.Core.Logic.{_⊎_, inl, inr}
 use native.Mathlib.Omega.{arith}
 use native.Mathlib.Decide.{ℕ-discrete}
-use lib.ListN.{length, take, drop}
+use lib.ListN.{length}
 use lib.IntN.{ℤ, pos, negsuc}
 use Rattle.wire.specs.Relations.{Among, here, there}
 use Rattle.wire.proofs.Bytes.{not-both}
@@ -24,7 +23,7 @@ use Rattle.soundness.proofs.File.{false-of, clear-sound, sound-clear}
 use Rattle.soundness.proofs.Lowest.{first-lowest}
 use Rattle.loader.specs.declared.LoadAnswer.the-variants.{Refused}
 use Rattle.loader.specs.Answer.{numbers}
-use Rattle.loader.specs.Load.{unfit, crowded, loadChecks, loadRefusal, Loaded, loaded, behind, accept, acceptFrom, load}
+use Rattle.loader.specs.Load.{crowded, loadChecks, loadRefusal, Loaded, accept, acceptFrom, load}
 use Rattle.loader.proofs.Refusals.{load-ascends}
 use Rattle.guarantees.specs.Load.{Unfit, base-negative, Loadable, answerOf, AcceptedExactly, RefusedByLowest}
 use Rattle.guarantees.proofs.LoadVerdict.{fits-exactly, unrefused-exactly, load-unrefused, load-refused}

@@ -1,21 +1,20 @@
 -- How a load is judged: which of its checks hold, and what it comes to.
-use Prim.Native.Nat.{ℕ, _≤_, _<_}
-use mathlib.Core.Path.{_≡_, refl, sym, ap, _∙_, subst}
+use Prim.Native.Nat.{ℕ, _≤_}
+use mathlib.Core.Path.{_≡_, refl}
 use mathlib.Core.Bool.{Bool, true, false, cond}
-use mathlib.Core.List.{List, [], _∷_, _++_}
+use mathlib.Core.List.{List}
 use mathlib.Core.Logic.{_↔_}
-use native.Mathlib.Omega.{arith}
-use lib.ListN.{length, take, drop}
-use lib.Dec.{ltb, eqb}
+use lib.ListN.{length, drop}
+use lib.Dec.{ltb}
 use lib.IntN.{ℤ, pos, negsuc}
-use borrow.Author.Tests.{lt-ltb, ltb-true, ltb-false, eq-eqb, ne-eqb}
+use borrow.Author.Tests.{lt-ltb, ltb-true, eq-eqb, ne-eqb}
 use Rattle.wire.specs.Wire.{anyOf}
 use Rattle.wire.proofs.Bytes.{not-both}
 use Rattle.table.specs.Slots.{room}
 use Rattle.bundle.specs.Checks.{checks}
 use Rattle.bundle.proofs.Rows.{Clear, clear-first, clear-parts}
-use Rattle.loader.specs.declared.LoadAnswer.the-variants.{Refused, Accepted}
-use Rattle.loader.specs.Load.{recordsIn, exportsIn, unfit, crowded, loadChecks, loadRefusal, Loaded, loaded, acceptFrom, load}
+use Rattle.loader.specs.declared.LoadAnswer.the-variants.{Refused}
+use Rattle.loader.specs.Load.{recordsIn, exportsIn, unfit, crowded, loadChecks, loadRefusal, loaded, acceptFrom, load}
 use Rattle.loader.proofs.Fitting.{fit-room}
 use Rattle.loader.proofs.Refusals.{all-clear}
 use Rattle.guarantees.specs.Load.{Unfit, base-negative, base-past, small-room, FitsExactly}

@@ -1,5 +1,5 @@
 -- What the slots hold once all records are written: each the tree that its record's hash names.
-use Prim.Native.Nat.{ℕ, zero, suc, _+_, _-_, _*_, _≤_, _<_}
+use Prim.Native.Nat.{ℕ, zero, suc, _+_, _-_, _≤_, _<_}
 use mathlib.Core.Path.{_≡_, refl, sym, ap, _∙_, subst}
 use mathlib.Core.List.{List, [], _∷_}
 use native.Mathlib.Omega.{arith}
@@ -11,10 +11,9 @@ use Rattle.wire.specs.declared.Found.{Found}
 use Rattle.wire.specs.declared.Found.the-variants.{Index, Nothing}
 use Rattle.wire.proofs.Index.{index-none}
 use Rattle.sizes.specs.Sizes.{nodesSize}
-use Rattle.calculus.specs.Tree.{Tree, leaf, stem, fork}
+use Rattle.calculus.specs.Tree.{Tree}
 use Rattle.table.specs.declared.slots.Slot.{Slot}
-use Rattle.table.specs.declared.slots.Node.{Node}
-use Rattle.table.specs.declared.slots.Node.the-variants.{Leaf, Stem, Fork}
+use Rattle.table.specs.declared.slots.Node.the-variants.{Leaf}
 use Rattle.table.specs.Slots.{room, Below}
 use Rattle.table.specs.Sound.{Sound}
 use Rattle.table.specs.Holds.{Has, Holds, holds-leaf, holds-stem, holds-fork, HoldsFrom, Untouched}
@@ -24,12 +23,13 @@ use Rattle.table.proofs.HoldsLaws.{zero-leaf}
 use Rattle.nodes.specs.Records.{Node as Record, children, hashes}
 use Rattle.nodes.specs.Links.{linkTo, linkOf, placedOf}
 use Rattle.nodes.proofs.Children.{at, hashAt, childrenAt, number-of, record-at, Kids, none, one, two, kids-view, link-hash, child-link, one-number}
+use Rattle.nodes.proofs.Slots.{slot-some, slot-most, slot-single, slot-onto, slot-lower}
 use Rattle.soundness.specs.Graph.{Names, names-leaf, names-stem, names-fork}
 use Rattle.soundness.specs.NodesMeaning.{Closed}
 use Rattle.loader.specs.Written.{slotOf, slotFound, slotNamed, nodeOf, written}
 use Rattle.guarantees.specs.Session.{Holding}
 use Rattle.guarantees.specs.Order.{TreesOf, none as no-trees, more as more-trees}
-use Rattle.guarantees.proofs.PlacingOrder.{hash-among, order, order-long, has-slot, at-slot, has-record, one-record-each, child-lower}
+use Rattle.guarantees.proofs.PlacingOrder.{hash-among, order, order-long, at-slot}
 use Rattle.guarantees.proofs.WrittenSlots.{written-long, written-over, written-each}
 
 module _ (rs : List Record) (few : length rs ≤ nodesSize .most) (apart : Distinct (hashes rs)) (closed : Closed rs)
@@ -38,14 +38,12 @@ module _ (rs : List Record) (few : length rs ≤ nodesSize .most) (apart : Disti
 
   slot-below : (i : ℕ) → i < length rs → slotOf rs i .0 < length rs
   unfolding slotOf
-  slot-below i l = let (a, b) = has-slot rs few apart closed whole i l in omega arith
+  slot-below i l = omega (arith, slot-some rs few whole i l, slot-most rs few whole i l)
 
   slot-apart : (i j : ℕ) → i < length rs → j < length rs → slotOf rs i .0 ≡ slotOf rs j .0 → i ≡ j
   unfolding slotOf
   slot-apart i j l m e =
-      let (a, b) = has-slot rs few apart closed whole i l in
-      let (c, d) = has-slot rs few apart closed whole j m in
-      one-record-each rs few apart closed whole i j l m (omega arith)
+      slot-single rs few whole i j l m (omega (arith, slot-some rs few whole i l, slot-some rs few whole j m))
 
   -- the record with a hash has the slot that the hash names
   pub named-slot : (h : List ℕ) (i : ℕ) → i < length rs → hashAt rs i ≡ h → slotNamed rs h ≡ slotOf rs i
@@ -63,7 +61,7 @@ module _ (rs : List Record) (few : length rs ≤ nodesSize .most) (apart : Disti
   pub order-slot : (k : ℕ) → k < length rs → slotNamed rs (hashAt (order rs few apart closed whole) k) .0 ≡ k
   unfolding slotOf
   order-slot k l =
-      let (i, m, e) = has-record rs few apart closed whole k l in
+      let (i, m, e) = slot-onto rs few whole k l in
       let z : getD (placedOf rs .slots) i 0 - 1 ≡ k = omega arith in
       let o : at (order rs few apart closed whole) k ≡ at rs i = rw z at (at-slot rs few apart closed whole i m) in
       subst (λ (r : Record). slotNamed rs (r .hash) .0 ≡ k) (sym o)
@@ -135,8 +133,7 @@ module _ (rs : List Record) (few : length rs ≤ nodesSize .most) (apart : Disti
     unfolding slotOf
     child-below i l {h} a =
         let (j, m, e, c) = child-link rs i l a (closed _ (record-at rs i l) h a) in
-        let (x, y) = has-slot rs few apart closed whole j m in
-        rw (named-slot h j m e) (omega (arith, child-lower rs few apart closed whole i j l c))
+        rw (named-slot h j m e) (omega (arith, slot-some rs few whole j m, slot-lower rs few whole i j l c .1))
 
     node-below : (i : ℕ) → i < length rs → Below (slotOf rs i .0) (nodeOf rs (childrenAt rs i))
     unfolding nodeOf
@@ -159,7 +156,7 @@ module _ (rs : List Record) (few : length rs ≤ nodesSize .most) (apart : Disti
       leaf-zero : (i : ℕ) → i < length rs → childrenAt rs i ≡ [] → slotOf rs i .0 ≡ 0
       unfolding slotOf
       leaf-zero i l e =
-          let (j, m, f) = has-record rs few apart closed whole 0 some in
+          let (j, m, f) = slot-onto rs few whole 0 some in
           let z : slotOf rs j .0 ≡ 0 = omega arith in
           let c : childrenAt rs j ≡ [] = first-childless j m z (childrenAt rs j) refl (kids-view _) in
           let q : i ≡ j
@@ -180,7 +177,7 @@ module _ (rs : List Record) (few : length rs ≤ nodesSize .most) (apart : Disti
             fits = rw (room-long w v (written-long rs 0 rs w)) fits;
             sound =
                 sound-each v (length rs) (λ k l.
-                let (i, m, e) = has-record rs few apart closed whole k l in
+                let (i, m, e) = slot-onto rs few whole k l in
                 let z : slotOf rs i .0 ≡ k = omega arith in (
                   nodeOf rs (childrenAt rs i),
                   rw z at (each-has i m),

@@ -4,7 +4,7 @@ use mathlib.Core.Path.{_≡_, refl, sym, ap, _∙_}
 use mathlib.Core.List.{List, [], _∷_, _++_}
 use native.Mathlib.Omega.{arith}
 use lib.ListN.{length, length-append}
-use Rattle.wire.specs.Relations.{Among, here, there, Distinct, Sequence, none, next}
+use Rattle.wire.specs.Relations.{Among, here, there, Distinct, Sequence, next}
 use Rattle.nodes.specs.Records.{Node, childrenOf, children, nodeHash, hashes}
 use Rattle.nodes.proofs.Payloads.{children-one, children-two}
 use Rattle.nodes.proofs.Children.{one-record}

@@ -1,6 +1,6 @@
 -- A sound bundle has one order of placing, and one tree for each of its records.
-use Prim.Native.Nat.{ℕ, suc, _<_}
-use mathlib.Core.Path.{_≡_, refl, sym, ap, _∙_, subst}
+use Prim.Native.Nat.{_<_}
+use mathlib.Core.Path.{_≡_, refl, sym, _∙_, subst}
 use mathlib.Core.List.{List, [], _∷_, _++_}
 use mathlib.Core.Logic.{_⊎_, inl, inr, ⊎-elim}
 use native.Mathlib.Omega.{arith}
@@ -8,9 +8,8 @@ use lib.ListN.{length, length-append}
 use Rattle.wire.specs.Relations.{Among, here, there}
 use Rattle.calculus.specs.Tree.{Tree}
 use Rattle.nodes.specs.Records.{Node, children}
-use Rattle.soundness.specs.Sound.{Sound}
 use Rattle.soundness.proofs.NodesTrees.{one-tree}
-use Rattle.guarantees.specs.Order.{Earliest, Placing, leaf-record, next-record, Order, TreesOf, none, more}
+use Rattle.guarantees.specs.Order.{Earliest, Placing, leaf-record, next-record, TreesOf, none, more}
 use Rattle.guarantees.specs.Load.{OneOrder, OneStart}
 use Rattle.guarantees.proofs.OneLeaf.{one-leaf}
 

@@ -11,12 +11,12 @@ use Rattle.wire.specs.Relations.{Among, here, there, Distinct}
 use Rattle.wire.proofs.Index.{among-index}
 use Rattle.sizes.specs.Sizes.{nodesSize}
 use Rattle.placing.specs.Placing.{Placed, ready, put, unplaced, placed}
-use Rattle.placing.specs.Circles.{Child}
 use Rattle.placing.proofs.Views.{ready-view, ready-if, child-ok}
-use Rattle.placing.proofs.Steps.{placing-keeps-first, placed-most}
-use Rattle.placing.proofs.Laid.{Laid, mine, unlike, others, put-laid, start-laid, placed-all}
+use Rattle.placing.proofs.Steps.{placing-keeps-first}
+use Rattle.placing.proofs.Laid.{Laid, mine, unlike, put-laid, start-laid}
 use Rattle.nodes.specs.Records.{Node, children, hashes}
 use Rattle.nodes.specs.Links.{linksOf, placedOf}
+use Rattle.nodes.proofs.Slots.{slots-count, slot-some}
 use Rattle.nodes.proofs.Children.{at, hashAt, number-of, record-at, links-ok, Kids, none, one, two, kids-view, link-child, child-link, one-number}
 use Rattle.soundness.specs.NodesMeaning.{Closed}
 use Rattle.guarantees.specs.Order.{Ready, Earliest, Placing, leaf-record, next-record, Order}
@@ -214,40 +214,17 @@ module _ (rs : List Node) (few : length rs ≤ nodesSize .most) (apart : Distinc
   -- ---- where all are placed
 
   module _ (whole : length rs ≤ placedOf rs .count) where
-    all-counted : placedOf rs .count ≡ length rs
-    unfolding placedOf
-    all-counted = omega (arith, placed-most (linksOf rs) (length rs) (nodesSize .most))
-
     pub order : List Node
     order = all-traced .ps
 
-    pub has-slot : (i : ℕ) → i < length rs → (0 < getD (placedOf rs .slots) i 0) × (getD (placedOf rs .slots) i 0 ≤ length rs)
-    unfolding placedOf
-    has-slot i l = (
-      placed-all (linksOf rs) (length rs) (nodesSize .most) (links-ok rs few) whole i l,
-      omega (arith, all-traced .laid .low i l, all-counted),
-    )
-
     pub order-long : length order ≡ length rs
     unfolding order all-traced
-    order-long = all-traced .long ∙ all-counted
+    order-long = all-traced .long ∙ slots-count rs few whole
 
-    -- record i stands in the order at the place of its slot, and there is a record for every place
+    -- record i stands in the order at the place of its slot
     pub at-slot : (i : ℕ) → i < length rs → at order (getD (placedOf rs .slots) i 0 - 1) ≡ at rs i
     unfolding order all-traced
-    at-slot i l = all-traced .slots i l (has-slot i l .0)
-
-    pub has-record : (k : ℕ) → k < length rs → (i : ℕ) × (i < length rs) × (getD (placedOf rs .slots) i 0 ≡ k + 1)
-    has-record k l = all-traced .laid .onto k (omega (arith, all-counted))
-
-    -- no two records have one slot, and children have lower ones
-    pub one-record-each : (i j : ℕ) → i < length rs → j < length rs →
-        getD (placedOf rs .slots) i 0 ≡ getD (placedOf rs .slots) j 0 → i ≡ j
-    one-record-each i j l m e = all-traced .laid .single i j l m (has-slot i l .0) e
-
-    pub child-lower : (i j : ℕ) → i < length rs → Child (linksOf rs) i j →
-        getD (placedOf rs .slots) j 0 < getD (placedOf rs .slots) i 0
-    child-lower i j l c = all-traced .laid .ranks i j l c (has-slot i l .0) .1
+    at-slot i l = all-traced .slots i l (slot-some rs few whole i l)
 
     pub in-order : 0 < length rs → Order rs order
     unfolding order all-traced

@@ -1,15 +1,15 @@
 -- Slot zero is the leaf after every run that was let start: a run starts on sound used slots, and leaves them so.
 use Prim.Native.Nat.{ℕ, _≤_, _<_}
-use mathlib.Core.Path.{_≡_, refl, sym, ap, _∙_, subst}
+use mathlib.Core.Path.{_≡_, refl, sym, _∙_, subst}
 use mathlib.Core.Bool.{Bool, true, false}
 use mathlib.Core.List.{List, _++_}
-use mathlib.Core.Logic.{_⊎_, inl, inr}
+use mathlib.Core.Logic.{inl, inr}
 use native.Mathlib.Omega.{arith}
 use native.Mathlib.Decide.{decLt}
 use lib.ListN.{length, take, drop, take-append-drop}
 use lib.Seq.{drop-at, length-take-le}
 use lib.IntN.{ℤ, pos, negsuc}
-use Rattle.calculus.specs.Tree.{Tree, leaf}
+use Rattle.calculus.specs.Tree.{leaf}
 use Rattle.calculus.specs.Machine.{Outcome}
 use Rattle.table.specs.declared.slots.Node.the-variants.{Leaf}
 use Rattle.table.specs.Slots.{room}
@@ -18,14 +18,14 @@ use Rattle.table.specs.Holds.{Has, Holds, holds-leaf}
 use Rattle.table.proofs.SoundLaws.{sound-breaks}
 use Rattle.table.proofs.HoldsLaws.{sound-holds}
 use Rattle.engine.specs.declared.RunAnswer.{RunAnswer}
-use Rattle.engine.specs.declared.RunAnswer.the-variants.{Refused, Done, Stopped}
+use Rattle.engine.specs.declared.RunAnswer.the-variants.{Refused}
 use Rattle.engine.specs.Run.{Ran, ran, run}
-use Rattle.engine.specs.Answer.{Numbers, numbers}
-use Rattle.guarantees.specs.Agrees.{Leaves, Agrees, agrees-done, agrees-stop}
-use Rattle.guarantees.specs.Run.{OutOfTable, base-negative, base-past, none-used, above-room, Misplaced, negative, not-used, Damaged}
+use Rattle.engine.specs.Answer.{Numbers}
+use Rattle.guarantees.specs.Agrees.{Agrees, agrees-done, agrees-stop}
+use Rattle.guarantees.specs.Run.{OutOfTable, base-negative, base-past, above-room, Misplaced, negative, not-used, Damaged}
 use Rattle.guarantees.specs.Demands.{ZeroIsLeaf, Started}
 use Rattle.guarantees.proofs.RunSimulates.{run-simulates}
-use Rattle.guarantees.proofs.Verdict.{Verdict, out, misplaced, damaged, started, Judged, verdict}
+use Rattle.guarantees.proofs.Verdict.{out, misplaced, damaged, started, Judged, verdict}
 
 -- a slot that holds the leaf has its words
 pub has-leaf : {w : List ℕ} {n i : ℕ} → Holds w n i leaf → Has w i Leaf

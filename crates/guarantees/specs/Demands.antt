@@ -3,7 +3,7 @@
 use Prim.Native.Nat.{ℕ}
 use mathlib.Core.Path.{_≡_}
 use mathlib.Core.List.{List}
-use lib.ListN.{length, take, drop}
+use lib.ListN.{take, drop}
 use lib.IntN.{ℤ, pos}
 use Rattle.table.specs.declared.slots.Node.the-variants.{Leaf}
 use Rattle.table.specs.Slots.{room}
@@ -18,7 +18,7 @@ use Rattle.loader.specs.Answer.{numbers}
 use Rattle.loader.specs.Load.{loaded, load}
 use Rattle.guarantees.specs.Run.{RefusalKeeps, RefusedExactly, BaseBlind, DoneStays}
 use Rattle.guarantees.specs.Session.{Request, AllAlike}
-use Rattle.guarantees.specs.Load.{FitsExactly, AcceptedExactly, RefusedByLowest, Loads, LoadLeaves, OneOrder, OneStart, LoadBlind}
+use Rattle.guarantees.specs.Load.{FitsExactly, AcceptedExactly, RefusedByLowest, Loads, OneOrder, OneStart, LoadBlind}
 
 -- slot zero, of the table from the base on, is the leaf
 abbrev pub ZeroIsLeaf : ℤ → List ℕ → Type 0

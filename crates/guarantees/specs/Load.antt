@@ -9,7 +9,6 @@ use lib.IntN.{ℤ, pos, negsuc}
 use Rattle.calculus.specs.Tree.{Tree}
 use Rattle.table.specs.Slots.{room}
 use Rattle.table.specs.Holds.{Holds, Untouched}
-use Rattle.manifest.specs.Content.{Export}
 use Rattle.nodes.specs.Records.{Node, hashes}
 use Rattle.bundle.specs.References.{exportHashes}
 use Rattle.soundness.specs.Graph.{Names}

@@ -2,30 +2,21 @@
 use Prim.Native.Nat.{ℕ, _≤_}
 use mathlib.Core.Path.{_≡_, refl, sym, ap, _∙_}
 use mathlib.Core.Bool.{Bool, true, false}
-use mathlib.Core.List.{List, [], _∷_, _++_}
+use mathlib.Core.List.{List, _++_}
 use native.Mathlib.Omega.{arith}
 use borrow.Author.Tests.{eqb-true}
 use lib.Dec.{eqb}
 use lib.IntN.{pos}
 use lib.ListN.{length, take, drop, replicate, length-take}
 use Rattle.manifest.specs.Content.{names}
-use Rattle.bundle.specs.Checks.{Check, firstOf, checks, refusal}
+use Rattle.bundle.specs.Checks.{refusal}
 use Rattle.loader.specs.declared.LoadAnswer.{LoadAnswer}
 use Rattle.loader.specs.declared.LoadAnswer.the-variants.{Refused, Accepted}
-use Rattle.loader.specs.Load.{exportsIn, loadChecks, loadRefusal, Loaded, loaded, accept, acceptFrom, load}
+use Rattle.loader.specs.Load.{exportsIn, loadRefusal, Loaded, loaded, accept, acceptFrom, load}
+use Rattle.loader.proofs.Refusals.{bundle-clear}
 use Rattle.listing.specs.Listing.{lines, refusedLine, okLine, report, listing}
 use Rattle.listing.specs.Writing.{Put, Exported}
 use Rattle.listing.proofs.Exports.{few-exports}
-
--- where all of two tables answer 0, the first does
-first-part : (cs ds : List Check) → firstOf (cs ++ ds) ≡ 0 → firstOf cs ≡ 0
-unfolding firstOf
-first-part [] ds e = refl
-first-part (c ∷ cs) ds e = go (c .holds) refl (first-part cs ds)
-  where
-    go : (b : Bool) → c .holds ≡ b → (firstOf (cs ++ ds) ≡ 0 → firstOf cs ≡ 0) → firstOf (c ∷ cs) ≡ 0
-    go true q rest = rw q (rw q at e)
-    go false q rest = rw q (rest (rw q at e))
 
 -- the load that the program makes, and the number that it answers
 abbrev made : List ℕ → Loaded
@@ -51,12 +42,12 @@ module _ (input : List ℕ) {words slots : List ℕ} {answer : LoadAnswer} (e : 
   -- an accepted bundle is sound, and its exports have slots
   pub accepted-exported : {nodes exports : ℕ} → answer ≡ Accepted nodes exports → length slots ≡ 32 →
       Exported input slots exports
-  unfolding load acceptFrom accept loadRefusal loadChecks refusal
+  unfolding load acceptFrom accept
   accepted-exported {nodes} {exports} q l = go (eqb (number input) 0) refl
     where
       go : (b : Bool) → eqb (number input) 0 ≡ b → Exported input slots exports
       go true t =
-          let clear : refusal input ≡ 0 = first-part (checks input) _ (eqb-true _ _ t) in
+          let clear : refusal input ≡ 0 = bundle-clear input (replicate 1024 0) (pos 0) (replicate 32 0) refl (eqb-true _ _ t) in
           let k : loaded words slots answer ≡ acceptFrom input (replicate 1024 0) (pos 0) (replicate 32 0) = rw t at e in
           let all : exports ≡ length (exportsIn input) = cc in
           record { clear = clear; all = all; space = omega (arith, few-exports input clear) }

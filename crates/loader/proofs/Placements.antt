@@ -12,44 +12,37 @@ use Rattle.wire.specs.Relations.{Among, here, there}
 use Rattle.wire.specs.declared.Found.{Found}
 use Rattle.wire.specs.declared.Found.the-variants.{Index, Nothing}
 use Rattle.wire.proofs.Index.{index-is, index-none}
-use Rattle.sizes.specs.Sizes.{nodesSize}
 use Rattle.table.specs.declared.slots.Slot.{Slot}
 use Rattle.table.specs.Slots.{slot}
 use Rattle.placing.specs.Circles.{Child as Linked, first, second}
-use Rattle.placing.proofs.Tally.{tally-most}
-use Rattle.placing.proofs.Laid.{Laid, child-in, placed-laid, placed-all}
 use Rattle.nodes.specs.Records.{Node as Record, nodesOf, hashes}
 use Rattle.nodes.specs.Links.{linkTo, linkOf, firstLink, secondLink, linksOf, placedOf, circular}
-use Rattle.nodes.proofs.Children.{childrenAt, hashes-length, record-at, links-ok, links-first, links-second}
+use Rattle.nodes.proofs.Children.{childrenAt, hashes-length, record-at, links-first, links-second}
 use Rattle.nodes.proofs.Children.{Kids, none, one, two, kids-view}
+use Rattle.nodes.proofs.Slots.{slots-laid, slot-some, slot-most, slot-lower}
 use Rattle.soundness.proofs.NodesTests.{there-exactly}
 use Rattle.loader.specs.Written.{slotOf, slotNamed, nodeOf}
 use Rattle.loader.specs.Ready.{Slotted, Ready, PlacedAt, slotAt, linked}
 
 module _ {rs : List Record} {slots : List ℕ} (h : Slotted rs slots) where
-  laid : Laid (linksOf rs) (length rs) (placedOf rs)
-  unfolding placedOf
-  laid = placed-laid (linksOf rs) (length rs) (nodesSize .most) (links-ok rs (h .few))
+  all : length rs ≤ placedOf rs .count
+  unfolding circular
+  all = ltb-false _ _ (h .whole)
 
   -- each record is placed, in a slot below their number
   pub slot-there : (i : ℕ) → i < length rs → (i < length slots) × (0 < getD slots i 0)
-  unfolding placedOf circular
   slot-there i l =
-      rw (h .slots-are) (
-        omega (arith, laid .long),
-        placed-all (linksOf rs) (length rs) (nodesSize .most) (links-ok rs (h .few)) (ltb-false _ _ (h .whole)) i l,
-      )
+      rw (h .slots-are) (omega (arith, slots-laid rs (h .few) .long), slot-some rs (h .few) all i l)
 
   pub slot-low : (i : ℕ) → i < length rs → getD slots i 0 ≤ length rs
-  slot-low i l =
-      rw (h .slots-are) (omega (arith, laid .low i l, laid .total, tally-most (placedOf rs .slots) (length rs)))
+  slot-low i l = rw (h .slots-are) (slot-most rs (h .few) all i l)
 
   child-lower : (i j : ℕ) → i < length rs → Linked (linksOf rs) i j →
       (j < length slots) × (0 < getD slots j 0) × (getD slots j 0 < getD slots i 0)
   child-lower i j l c =
-      let m = child-in (linksOf rs) (length rs) (links-ok rs (h .few) .small) i j l c in
+      let (m, lower) = slot-lower rs (h .few) all i j l c in
       let (a, b) = slot-there j m in
-      (a, b, rw (h .slots-are) (laid .ranks i j l c (rw (h .slots-are) at (slot-there i l .1)) .1))
+      (a, b, rw (h .slots-are) lower)
 
   pub slot-is : (i : ℕ) → slotAt slots i ≡ slotOf rs i
   unfolding slotOf

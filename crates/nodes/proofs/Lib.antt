@@ -4,3 +4,4 @@ pub mod Walks
 pub mod Payloads
 pub mod Filling
 pub mod Placing
+pub mod Slots
