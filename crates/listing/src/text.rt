@@ -5,7 +5,7 @@ ghost use Rattle.listing.specs.Text.{decimal};
 ghost use Rattle.listing.specs.Writing.{Put};
 
 // Puts the bytes of t.
-pub fn put_bytes(out: &mut [u8], at: usize, t: &[u8]) -> usize
+pub(crate) fn put_bytes(out: &mut [u8], at: usize, t: &[u8]) -> usize
     requires { ⌜ at + length (now t) ≤ length (now out) ⌝ }
     ensures { λ r. ⌜ Put (now (t .entry)) (now (out .entry)) at (now (out .exit)) r ⌝ }
 {
@@ -18,7 +18,7 @@ pub fn put_bytes(out: &mut [u8], at: usize, t: &[u8]) -> usize
 }
 
 // Puts a number in decimal digits.
-pub fn put_decimal(out: &mut [u8], at: usize, n: u32) -> usize
+pub(crate) fn put_decimal(out: &mut [u8], at: usize, n: u32) -> usize
     requires { ⌜ at + length (decimal n) ≤ length (now out) ⌝ }
     ensures { λ r. ⌜ Put (decimal n) (now (out .entry)) at (now (out .exit)) r ⌝ }
 {
