@@ -53,7 +53,13 @@ fn put_ok(out: &mut [u8], nodes: u32, exports: u32) -> usize
 }
 
 // Puts what is written of an accepted bundle.
-pub(crate) fn put_accepted(input: &[u8], nodes: u32, slots: &[u32], exports: u32, out: &mut [u8]) -> usize
+pub(crate) fn put_accepted(
+    input: &[u8],
+    nodes: u32,
+    slots: &[u32],
+    exports: u32,
+    out: &mut [u8],
+) -> usize
     requires { ⌜ (Exported (now input) (now slots) exports) × (4096 ≤ length (now out)) ⌝ }
     ensures { λ r. ⌜ Put
         (okLine nodes exports ++ lines (take exports (now (slots .entry))) (names (exportsIn (now (input .entry)))))
