@@ -1,17 +1,19 @@
 -- A sound bundle has one order of placing, and one tree for each of its records.
-use Prim.Native.Nat.{_<_}
-use mathlib.Core.Path.{_≡_, refl, sym, _∙_, subst}
+use Prim.Native.Nat.{ℕ, _<_}
+use mathlib.Core.Path.{_≡_, refl, sym, ap, _∙_, subst}
 use mathlib.Core.List.{List, [], _∷_, _++_}
 use mathlib.Core.Logic.{_⊎_, inl, inr, ⊎-elim}
 use native.Mathlib.Omega.{arith}
 use lib.ListN.{length, length-append}
-use Rattle.wire.specs.Relations.{Among, here, there}
+use Rattle.wire.specs.Relations.{Among, here, there, Distinct}
 use Rattle.calculus.specs.Tree.{Tree}
-use Rattle.nodes.specs.Records.{Node, children}
+use Rattle.nodes.specs.Records.{Node, children, hashes}
+use Rattle.soundness.specs.Sound.{Sound}
 use Rattle.soundness.proofs.NodesTrees.{one-tree}
 use Rattle.guarantees.specs.Order.{Earliest, Placing, leaf-record, next-record, TreesOf, none, more}
 use Rattle.guarantees.specs.Load.{OneOrder, OneStart}
 use Rattle.guarantees.proofs.OneLeaf.{one-leaf}
+use Rattle.guarantees.proofs.LoadAccepted.{nodes-read}
 
 -- two elements of one list are the same, or one stands before the other
 one-first : (b d : List Node) (r q : Node) (x y : List Node) → b ++ (r ∷ x) ≡ d ++ (q ∷ y) →
@@ -48,14 +50,21 @@ module _ (rs : List Node)
       let y : r ≡ q = one-earliest {rs = rs} e (rw z f) in
       cc
 
+-- its records are those that are read
+same-nodes : {file : List ℕ} (s s′ : Sound file) → s′ .nodes ≡ s .nodes
+same-nodes s s′ = sym (nodes-read s′) ∙ nodes-read s
+
 pub one-order : OneOrder
-one-order file sound a b x y =
-    one-placing (sound .nodes) (one-leaf (sound .nodes) (sound .is-nodes) (sound .hashed) (sound .distinct))
-    (x .placing) (y .placing) (x .whole ∙ sym (y .whole))
+one-order file s s′ a b x y =
+    one-placing (s .nodes) (one-leaf (s .nodes) (s .is-nodes) (s .hashed) (s .distinct)) (x .placing)
+    (rw (same-nodes s s′) at (y .placing)) (x .whole ∙ sym (ap length (same-nodes s s′)) ∙ sym (y .whole))
+
+module _ (rs : List Node) (apart : Distinct (hashes rs)) where
+  same-store : (order : List Node) (a b : List Tree) → TreesOf rs order a → TreesOf rs order b → a ≡ b
+  same-store _ _ _ none none = refl
+  same-store _ _ _ (more n x) (more m y) = cc (one-tree rs apart n m, same-store _ _ _ x y)
 
 pub one-start : OneStart
-one-start file sound = same
-  where
-    same : (order : List Node) (a b : List Tree) → TreesOf (sound .nodes) order a → TreesOf (sound .nodes) order b → a ≡ b
-    same _ _ _ none none = refl
-    same _ _ _ (more n x) (more m y) = cc (one-tree (sound .nodes) (sound .distinct) n m, same _ _ _ x y)
+one-start file s s′ order a b x y =
+    same-store (s .nodes) (s .distinct) order a b x
+    (subst (λ (rs : List Node). TreesOf rs order b) (same-nodes s s′) y)

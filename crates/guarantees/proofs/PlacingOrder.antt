@@ -19,24 +19,22 @@ use Rattle.nodes.specs.Links.{linksOf, placedOf}
 use Rattle.nodes.proofs.Slots.{slots-count, slot-some}
 use Rattle.nodes.proofs.Children.{at, hashAt, number-of, record-at, links-ok, Kids, none, one, two, kids-view, link-child, child-link, one-number}
 use Rattle.soundness.specs.NodesMeaning.{Closed}
+use Rattle.soundness.proofs.Each.{each-exactly}
 use Rattle.guarantees.specs.Order.{Ready, Earliest, Placing, leaf-record, next-record, Order}
 
 -- ---- lists
 
--- an element of a list stands among its join with another, and the hash of a record among the hashes
-among-front : {A : Type 0} {x : A} {xs : List A} (ys : List A) → Among x xs → Among x (xs ++ ys)
-among-front ys here = here
-among-front ys (there a) = there (among-front ys a)
-
+-- the hashes of some records are just those that one of them has
 pub hash-among : {r : Node} {rs : List Node} → Among r rs → Among (r .hash) (hashes rs)
 unfolding hashes
-hash-among here = here
-hash-among (there a) = there (hash-among a)
+hash-among {r} {rs} a =
+    each-exactly (λ (q : Node). q .hash) hashes refl (λ q qs. refl) (λ h. Among h (hashes rs)) rs .0 (λ h k. k) r a
 
 pub among-hash : {h : List ℕ} (rs : List Node) → Among h (hashes rs) → (r : Node) × Among r rs × (r .hash ≡ h)
 unfolding hashes
-among-hash (r ∷ rs) here = (r, here, refl)
-among-hash (r ∷ rs) (there a) = let (q, b, e) = among-hash rs a in (q, there b, e)
+among-hash {h} rs a =
+    each-exactly (λ (q : Node). q .hash) hashes refl (λ q qs. refl) (λ b. (r : Node) × Among r rs × (r .hash ≡ b)) rs .1
+    (λ q k. (q, k, refl)) h a
 
 -- the list around its element i
 pub around : (rs : List Node) (i : ℕ) → i < length rs → rs ≡ take i rs ++ (at rs i ∷ drop (suc i) rs)

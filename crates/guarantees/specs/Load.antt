@@ -100,15 +100,17 @@ LoadLeaves =
     load file words base exports ≡ loaded words′ exports′ a → numbers a .number ≡ 0 →
     Loads file words base exports words′ exports′ (numbers a)
 
--- A sound bundle has just one order of placing, and just one store: nothing is left open in what a load leaves.
+-- A sound bundle has just one order of placing, and just one store, however its soundness is shown: nothing is left open in what
+-- a load leaves.
 abbrev pub OneOrder : Type 0
 OneOrder =
-    (file : List ℕ) (sound : Sound file) (a b : List Node) → Order (sound .nodes) a → Order (sound .nodes) b → a ≡ b
+    (file : List ℕ) (s s′ : Sound file) (order order′ : List Node) →
+    Order (s .nodes) order → Order (s′ .nodes) order′ → order ≡ order′
 
 abbrev pub OneStart : Type 0
 OneStart =
-    (file : List ℕ) (sound : Sound file) (order : List Node) (a b : List Tree) →
-    TreesOf (sound .nodes) order a → TreesOf (sound .nodes) order b → a ≡ b
+    (file : List ℕ) (s s′ : Sound file) (order : List Node) (store store′ : List Tree) →
+    TreesOf (s .nodes) order store → TreesOf (s′ .nodes) order store′ → store ≡ store′
 
 -- ---- the words before the base
 

@@ -1,11 +1,12 @@
 -- What document 01's program writes for its standard input.
-use Prim.Native.Nat.{ℕ, suc}
+use Prim.Native.Nat.{ℕ, suc, _*_}
 use mathlib.Core.Path.{_≡_}
 use mathlib.Core.List.{List, [], _∷_, _++_}
 use lib.ListN.{length, take, replicate}
 use lib.IntN.{pos}
 use Rattle.wire.specs.Wire.{ascii}
-use Rattle.sizes.specs.Sizes.{fileSize}
+use Rattle.sizes.specs.Sizes.{fileSize, exportsSize, nodesSize}
+use Rattle.table.specs.Slots.{width}
 use Rattle.manifest.specs.Content.{names}
 use Rattle.loader.specs.declared.LoadAnswer.the-variants.{Refused, Accepted}
 use Rattle.loader.specs.Load.{exportsIn, Loaded, loaded, load}
@@ -36,7 +37,9 @@ report (loaded words slots (Accepted nodes exports)) names = okLine nodes export
 
 -- the input is loaded at base 0 into tables with room for 512 nodes and 32 exports
 unfoldable pub listing : List ℕ → List ℕ
-listing input = report (load input (replicate 1024 0) (pos 0) (replicate 32 0)) (names (exportsIn input))
+listing input =
+    report (load input (replicate (width * nodesSize .most) 0) (pos 0) (replicate (exportsSize .most) 0))
+    (names (exportsIn input))
 
 -- A file over 65,536 bytes is refused with 1, whatever its bytes. So one byte more than the largest bundle is enough of any
 -- standard input.
