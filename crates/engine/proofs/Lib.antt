@@ -3,3 +3,4 @@ pub mod Keeps
 pub mod StepWays
 pub mod DriveWays
 pub mod CallWays
+pub mod Named

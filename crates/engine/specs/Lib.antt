@@ -3,4 +3,5 @@ pub mod Step
 pub mod Ready
 pub mod Run
 pub mod Answer
+pub mod Named
 pub mod Cases

@@ -1,14 +1,17 @@
 -- The answers mean what specs/Meaning.antt says.
-use Prim.Native.Nat.{ℕ, _<_}
+use Prim.Native.Nat.{ℕ, _≤_, _<_}
 use mathlib.Core.Path.{_≡_, refl, ap, _∙_}
-use mathlib.Core.List.{List, []}
+use mathlib.Core.List.{List, [], _∷_}
 use native.Mathlib.Omega.{arith}
+use native.Mathlib.Decide.{ℕ-discrete}
 use borrow.Author.Tests.{ne-eqb}
 use lib.ListN.{length, getD}
 use Rattle.wire.specs.Relations.{Among}
 use Rattle.wire.specs.Wire.{indexOf}
 use Rattle.wire.specs.declared.Found.{Found}
-use Rattle.wire.proofs.Index.{index-among, found-not, apart-unfound}
+use Rattle.wire.specs.declared.Found.the-variants.{Index as FoundAt, Nothing}
+use Rattle.wire.proofs.Index.{index-among, index-is, found-not, apart-unfound}
+use Rattle.sizes.specs.Sizes.{exportsSize}
 use Rattle.manifest.specs.Content.{names}
 use Rattle.manifest.specs.Judged.{exportsOf}
 use Rattle.soundness.proofs.ManifestMeaning.{reads-exports}
@@ -19,7 +22,8 @@ use Rattle.bundle.specs.Checks.{nameRefusal, refusal}
 use Rattle.bundle.specs.Exports.{namePart, indexAsked, indexCall, answerOf, numbers}
 use Rattle.soundness.specs.Sound.{Described, Sound}
 use Rattle.soundness.specs.Meaning.{DescribedExactly, AcceptedExactly, RefusedByLowest, OneTreeEach, NameByIndex, IndexByName}
-use Rattle.soundness.specs.Meaning.{NameInFile, NoSuchName, EmptyName, NamesRefused}
+use Rattle.soundness.specs.Meaning.{NameInFile, NoSuchName, EmptyName, IndexBelow, NamesRefused}
+use Rattle.soundness.specs.ManifestGrammar.{Contents, IsManifest, manifest, counted}
 use Rattle.bundle.proofs.Rows.{Ascends, clear-first, first-clear}
 use Rattle.soundness.proofs.Lowest.{first-lowest}
 use Rattle.soundness.proofs.Each.{each-exactly}
@@ -99,6 +103,29 @@ no-such-name file d name h n =
 pub empty-name : EmptyName
 unfolding indexAsked
 empty-name file d = ap numbers (index-asked file (fine file d) [])
+
+few-exports : {m : Contents} {s : List ℕ} → IsManifest m s → length (m .exports) ≤ exportsSize .most
+few-exports (manifest a b c d e f g (counted n l most q) h i) = most
+
+index-found : (xs : List (List ℕ)) (name : List ℕ) → length xs ≤ exportsSize .most →
+    (f : Found) → indexOf name 0 xs ≡ f → numbers (answerOf f) .index < exportsSize .most
+index-found xs name most (FoundAt k) e = omega (arith, index-is name 0 xs k e .1)
+index-found xs name most Nothing e = omega arith
+
+pub index-below : IndexBelow
+unfolding indexCall
+index-below file name = elim (ℕ-discrete (nameRefusal file) 0) [
+  | yes clear ↦ go (described-exactly file .0 clear) name
+  | no k ↦ rw (ne-eqb (nameRefusal file) 0 k) (omega arith)
+]
+  where
+    go : Described file → (name : List ℕ) → numbers (indexCall file name) .index < exportsSize .most
+    go d [] = rw (ap (λ n. n .index) (empty-name file d)) (omega arith)
+    go d (b ∷ bs) =
+        let ns = names (d .manifest .exports) in
+        let most : length ns ≤ exportsSize .most = rw names-length (few-exports (d .is-manifest)) in
+        rw (asked file d {name = b ∷ bs} (λ q. absurd (omega (arith, ap length q))) refl)
+        (index-found ns (b ∷ bs) most (indexOf (b ∷ bs) 0 ns) refl)
 
 pub names-refused : NamesRefused
 unfolding namePart indexCall

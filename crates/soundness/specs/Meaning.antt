@@ -7,6 +7,7 @@ use mathlib.Core.List.{List, []}
 use lib.ListN.{length, getD}
 use Rattle.wire.specs.Relations.{Among}
 use Rattle.calculus.specs.Tree.{Tree}
+use Rattle.sizes.specs.Sizes.{exportsSize}
 use Rattle.manifest.specs.Content.{names}
 use Rattle.nodes.specs.Records.{Node}
 use Rattle.soundness.specs.Graph.{Names}
@@ -64,6 +65,10 @@ NoSuchName =
 
 abbrev pub EmptyName : Type 0
 EmptyName = (file : List ℕ) → Described file → numbers (indexCall file []) ≡ record { number = 0; index = 0 }
+
+-- an index that is answered is below the most exports that a bundle has, whatever the file and the name
+abbrev pub IndexBelow : Type 0
+IndexBelow = (file name : List ℕ) → numbers (indexCall file name) .index < exportsSize .most
 
 -- where one of 1 to 14 holds, the calls answer the empty part and that number
 abbrev pub NamesRefused : Type 0

@@ -1,0 +1,54 @@
+-- What a call answers, in words, whatever its case is.
+use Prim.Native.Nat.{ℕ, _<_}
+use mathlib.Core.Path.{_≡_, ap, sym, _∙_, subst}
+use mathlib.Core.List.{List}
+use native.Mathlib.Omega.{arith}
+use lib.IntN.{ℤ}
+use mir.Syntax.{w32}
+use mir.Val.{Fits}
+use Rattle.sizes.specs.Sizes.{exportsSize}
+use Rattle.bundle.specs.declared.exports.IndexAnswer.{IndexAnswer}
+use Rattle.bundle.specs.declared.exports.IndexAnswer.the-variants.{Index}
+use Rattle.bundle.specs.Exports.{indexCall}
+use Rattle.bundle.specs.Exports as exports
+use Rattle.soundness.proofs.Meaning.{index-below}
+use Rattle.loader.specs.declared.LoadAnswer.{LoadAnswer}
+use Rattle.loader.specs.Load.{Loaded, loaded}
+use Rattle.loader.specs.Answer as loader
+use Rattle.engine.specs.declared.RunAnswer.{RunAnswer}
+use Rattle.engine.specs.Run.{Ran, ran, run}
+use Rattle.engine.specs.Answer as engine
+use Rattle.engine.specs.Named.{Named}
+use Rattle.engine.proofs.Named.{slots-named}
+use Rattle.arboricx.specs.Answers.{loadWords, runWords, indexWords}
+use Rattle.arboricx.specs.Calls.{left, afterLoad, afterRun, told, afterIndex}
+
+-- ---- a load
+
+pub load-left : {w out : List ℕ} {a b : LoadAnswer} {l : Loaded} → loaded w out a ≡ l → a ≡ b →
+    left w out (loadWords b) (loader.numbers b .number) ≡ afterLoad l
+load-left e h = rw (← h) (ap afterLoad e)
+
+-- ---- a run
+
+pub run-left : {w j : List ℕ} {a b : RunAnswer} {r : Ran} → ran w j a ≡ r → a ≡ b →
+    left w j (runWords b) (engine.numbers b .number) ≡ afterRun r
+run-left e h = rw (← h) (ap afterRun e)
+
+-- its slots are used ones
+pub run-named : (w j : List ℕ) (base f x : ℤ) (used fuel : ℕ) {w′ j′ : List ℕ} {a b : RunAnswer} →
+    ran w′ j′ a ≡ run w base f x used fuel j → a ≡ b → Named b
+run-named w j base f x used fuel e h = subst Named h (slots-named w _ j _ base f x used fuel _ (sym e))
+
+-- ---- an index by name
+
+pub index-told : {a b c : IndexAnswer} → a ≡ c → a ≡ b →
+    told (indexWords b) (exports.numbers b .number) ≡ afterIndex c
+index-told e h = rw (← h) (ap afterIndex e)
+
+-- it is a word
+pub index-cast : (file name : List ℕ) {a : IndexAnswer} {i : ℕ} → a ≡ indexCall file name → a ≡ Index i → Fits w32 i
+index-cast file name e h =
+    let l : exports.numbers (Index _) .index < exportsSize .most =
+    subst (λ (b : IndexAnswer). exports.numbers b .index < exportsSize .most) (sym e ∙ h) (index-below file name) in
+    record { fits = omega (arith, l) }

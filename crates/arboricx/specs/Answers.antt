@@ -1,0 +1,33 @@
+-- The words that C gets of each answer, in the order of include/arboricx.h.
+use Prim.Native.Nat.{ℕ}
+use mathlib.Core.List.{List, [], _∷_}
+use lib.IntN.{ℤ, natAbs}
+use Rattle.loader.specs.declared.LoadAnswer.{LoadAnswer}
+use Rattle.loader.specs.Answer as load
+use Rattle.engine.specs.declared.RunAnswer.{RunAnswer}
+use Rattle.engine.specs.declared.RunAnswer.the-variants.{Refused, Done, Stopped}
+use Rattle.bundle.specs.declared.exports.IndexAnswer.{IndexAnswer}
+use Rattle.bundle.specs.declared.exports.Part.{Part}
+use Rattle.bundle.specs.Exports as exports
+
+-- number, node count, export count
+abbrev pub loadWords : LoadAnswer → List ℕ
+loadWords a = load.numbers a .number ∷ load.numbers a .nodes ∷ load.numbers a .exports ∷ []
+
+-- a slot that was answered; it is never negative (SlotsPlain)
+abbrev pub slotWord : ℤ → ℕ
+slotWord = natAbs
+
+-- number; result slot or f; x; steps; used count; jobs waiting
+abbrev pub runWords : RunAnswer → List ℕ
+runWords (Refused n) = n ∷ 0 ∷ 0 ∷ 0 ∷ 0 ∷ 0 ∷ []
+runWords (Done slot steps used) = 0 ∷ slotWord slot ∷ 0 ∷ steps ∷ used ∷ 0 ∷ []
+runWords (Stopped n f x steps used waiting) = n ∷ slotWord f ∷ slotWord x ∷ steps ∷ used ∷ waiting ∷ []
+
+-- number, index
+abbrev pub indexWords : IndexAnswer → List ℕ
+indexWords a = exports.numbers a .number ∷ exports.numbers a .index ∷ []
+
+-- start, length
+abbrev pub partWords : Part → List ℕ
+partWords p = p .start ∷ p .size ∷ []

@@ -1,0 +1,117 @@
+// The calls for C: include/arboricx.h declares them. A slice is a pointer and a length there, a lent array a pointer.
+ghost use mathlib.Core.Path.{_≡_};
+ghost use Rattle.sha256_block.specs.Fips180.{sha256};
+ghost use Rattle.bundle.specs.Checks.{refusal};
+ghost use Rattle.bundle.specs.Exports.{namePart, indexCall};
+ghost use Rattle.loader.specs.Load.{load};
+ghost use Rattle.engine.specs.Run.{run};
+ghost use Rattle.arboricx.specs.Answers.{partWords};
+ghost use Rattle.arboricx.specs.Calls.{left, afterLoad, afterRun, told, afterIndex};
+use bundle::exports::IndexAnswer;
+use bundle::exports::Part;
+use engine::RunAnswer;
+use loader::LoadAnswer;
+
+// 1 to 20: the number of the first check that holds, or 0 for a sound bundle.
+#[no_mangle]
+pub extern "C" fn arboricx_check(file: &[u8]) -> u32
+    ensures { λ r. ⌜ r ≡ refusal (now (file .entry)) ⌝ }
+{
+    bundle::check(file)
+}
+
+// Loads a bundle. The answer: number, node count, export count.
+#[no_mangle]
+pub extern "C" fn arboricx_load(
+    file: &[u8],
+    words: &mut [u32],
+    base: i32,
+    exports: &mut [u32],
+    answer: &mut [u32; 3],
+) -> u32
+    ensures { λ r. ⌜ left (now (words .exit)) (now (exports .exit)) (now (answer .exit)) r
+        ≡ afterLoad (load (now (file .entry)) (now (words .entry)) base (now (exports .entry))) ⌝ }
+{
+    match loader::load(file, words, base, exports) {
+        LoadAnswer::Refused(number) => {
+            *answer = [number, 0, 0];
+            number
+        }
+        LoadAnswer::Accepted { nodes, exports } => {
+            *answer = [0, nodes, exports];
+            0
+        }
+    }
+}
+
+// Applies slot f to slot x. The answer: number; result slot or f; x; steps; used count; jobs waiting.
+#[no_mangle]
+pub extern "C" fn arboricx_run(
+    words: &mut [u32],
+    base: i32,
+    f: i32,
+    x: i32,
+    used: u32,
+    fuel: u32,
+    jobs: &mut [u32],
+    answer: &mut [u32; 6],
+) -> u32
+    ensures { λ r. ⌜ left (now (words .exit)) (now (jobs .exit)) (now (answer .exit)) r
+        ≡ afterRun (run (now (words .entry)) base f x used fuel (now (jobs .entry))) ⌝ }
+{
+    match engine::run(words, base, f, x, used, fuel, jobs) {
+        RunAnswer::Refused(number) => {
+            *answer = [number, 0, 0, 0, 0, 0];
+            number
+        }
+        RunAnswer::Done { slot, steps, used } => {
+            *answer = [0, slot as u32, 0, steps, used, 0];
+            0
+        }
+        RunAnswer::Stopped {
+            number,
+            f,
+            x,
+            steps,
+            used,
+            waiting,
+        } => {
+            *answer = [number, f as u32, x as u32, steps, used, waiting];
+            number
+        }
+    }
+}
+
+// The index of the export with a name. The answer: number, index.
+#[no_mangle]
+pub extern "C" fn arboricx_export_index(file: &[u8], name: &[u8], answer: &mut [u32; 2]) -> u32
+    ensures { λ r. ⌜ told (now (answer .exit)) r ≡ afterIndex (indexCall (now (file .entry)) (now (name .entry))) ⌝ }
+{
+    match bundle::exports::export_index(file, name) {
+        IndexAnswer::Refused(number) => {
+            *answer = [number, 0];
+            number
+        }
+        IndexAnswer::Index(index) => {
+            *answer = [0, index as u32];
+            0
+        }
+    }
+}
+
+// The part of the file that is an export's name. The answer: start, length; (0, 0) for the empty part.
+#[no_mangle]
+pub extern "C" fn arboricx_export_name(file: &[u8], index: u32, answer: &mut [usize; 2])
+    ensures { λ r. ⌜ now (answer .exit) ≡ partWords (namePart (now (file .entry)) index) ⌝ }
+{
+    let part = bundle::exports::name_part(file, index);
+    *answer = [part.start, part.size];
+}
+
+// SHA-256 of some bytes.
+#[no_mangle]
+pub extern "C" fn arboricx_sha256(bytes: &[u8], digest: &mut [u8; 32])
+    ensures { λ r. ⌜ now (digest .exit) ≡ sha256 (now (bytes .entry)) ⌝ }
+{
+    *digest = sha256::digest(bytes);
+}

@@ -1,0 +1,78 @@
+-- Every slot that a run answers is a used one.
+use Prim.Native.Nat.{ℕ, zero, suc}
+use mathlib.Core.Path.{_≡_, refl, sym, subst}
+use mathlib.Core.List.{List}
+use native.Mathlib.Omega.{arith}
+use lib.Dec.{ltb}
+use lib.IntN.{ℤ, pos, negsuc}
+use lib.ListN.{length, take, drop}
+use Rattle.table.specs.Frames.{cleared}
+use Rattle.table.proofs.Tests.{by-test}
+use Rattle.table.proofs.SlotLaws.{room-most}
+use Rattle.engine.specs.declared.step.State.{State}
+use Rattle.engine.specs.declared.step.Status.{Status}
+use Rattle.engine.specs.declared.step.Status.the-variants.{Going, Done as IsDone, NoSlot, NoPlace}
+use Rattle.engine.specs.declared.Admission.{Admission}
+use Rattle.engine.specs.declared.Admission.the-variants.{Refused as NotLet, Start}
+use Rattle.engine.specs.Step.{Stepped, at, step}
+use Rattle.engine.specs.Ready.{Ready, Waits}
+use Rattle.engine.specs.Run.{Ran, ran, finished, stopped, resumeAs, resume, drive, admit, start, runTail, behind, run}
+use Rattle.engine.specs.Named.{Named, SlotsNamed}
+use Rattle.engine.proofs.Keeps.{Left, step-keeps}
+use Rattle.engine.proofs.CallWays.{start-ready, start-waits}
+
+abbrev Names : Ran → Type 0
+Names (ran w j a) = Named a
+
+-- of a state that is ready
+finished-named : (w : List ℕ) (s : State) (k : ℕ) → Ready w s → Named (finished s k)
+finished-named w s k r = (omega (arith, r .slots .fits, room-most w), (_, refl, r .f))
+
+stopped-named : (w : List ℕ) (s : State) (n k : ℕ) → Ready w s → Named (stopped n s k)
+stopped-named w s n k r = (omega (arith, r .slots .fits, room-most w), (_, refl, r .f), (_, refl, r .x))
+
+-- the loop
+module _ (rest : ℕ → List ℕ → List ℕ → State → Ran)
+    (all : (k : ℕ) (w j : List ℕ) (s : State) → Ready w s → Waits j (s .used) (s .waiting) → Names (rest k w j s))
+    (k : ℕ) (w : List ℕ) (s : State) (r : Ready w s) where
+  status-named : (w′ j′ : List ℕ) (next : State) (u : Status) → Ready w′ next → Waits j′ (next .used) (next .waiting) →
+      Names (resumeAs rest k s w′ j′ next u)
+  status-named w′ j′ next Going n h = all (suc k) w′ j′ next n h
+  status-named w′ j′ next IsDone n h = finished-named w′ next (suc k) n
+  status-named w′ j′ next NoSlot n h = stopped-named w s 32 k r
+  status-named w′ j′ next NoPlace n h = stopped-named w s 33 k r
+
+  resume-named : (t : Stepped) → Left t → Names (resume rest k s t)
+  resume-named (at w′ j′ t) l = status-named w′ j′ (t .state) (t .status) (l .0) (l .1)
+
+drive-named : (n k : ℕ) (w j : List ℕ) (s : State) → Ready w s → Waits j (s .used) (s .waiting) →
+    Names (drive n k w j s)
+unfolding drive
+drive-named zero k w j s r h = stopped-named w s 31 k r
+drive-named (suc n) k w j s r h = resume-named (drive n) (drive-named n) k w s r (step w j s) (step-keeps w j s r h)
+
+-- the call
+module _ (w j : List ℕ) (f x : ℤ) (used fuel : ℕ) where
+  start-named : (a : Admission) → a ≡ admit w f x used → Names (start w fuel j a)
+  unfolding start
+  start-named (NotLet n) e = tt
+  start-named (Start s) e =
+      drive-named fuel 0 w (cleared j) s (start-ready w f x used (Start s) e s refl)
+      (start-waits w f x used (Start s) e s refl (cleared j))
+
+  tail-named : Names (runTail w f x used fuel j)
+  unfolding runTail
+  tail-named = start-named (admit w f x used) refl
+
+behind-named : (before : List ℕ) (r : Ran) → Names r → Names (behind before r)
+behind-named before (ran w j a) n = n
+
+run-named : (w j : List ℕ) (base f x : ℤ) (used fuel : ℕ) → Names (run w base f x used fuel j)
+unfolding run
+run-named w j (negsuc b) f x used fuel = tt
+run-named w j (pos b) f x used fuel =
+    by-test Names (ltb (length w) b) (λ _. tt)
+    (λ _. behind-named (take b w) (runTail (drop b w) f x used fuel j) (tail-named (drop b w) j f x used fuel))
+
+pub slots-named : SlotsNamed
+slots-named w v j k base f x used fuel a e = subst Names e (run-named w j base f x used fuel)

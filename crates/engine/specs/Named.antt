@@ -1,0 +1,24 @@
+-- The slots that a run answers.
+use Prim.Native.Nat.{ℕ, _≤_, _<_}
+use mathlib.Core.Path.{_≡_}
+use mathlib.Core.List.{List}
+use lib.IntN.{ℤ, pos}
+use Rattle.table.specs.Limits.{maxSlots}
+use Rattle.engine.specs.declared.RunAnswer.{RunAnswer}
+use Rattle.engine.specs.declared.RunAnswer.the-variants.{Refused, Done, Stopped}
+use Rattle.engine.specs.Run.{ran, run}
+
+-- a number names one of the used slots
+abbrev pub Among : ℕ → ℤ → Type 0
+Among used z = (i : ℕ) × (z ≡ pos i) × (i < used)
+
+abbrev pub Named : RunAnswer → Type 0
+Named (Refused n) = Unit {0}
+Named (Done slot steps used) = (used ≤ maxSlots) × Among used slot
+Named (Stopped n f x steps used waiting) = (used ≤ maxSlots) × Among used f × Among used x
+
+-- Every slot that a run answers is a used one, so that it may be handed back as f or x.
+abbrev pub SlotsNamed : Type 0
+SlotsNamed =
+    (w v j k : List ℕ) (base f x : ℤ) (used fuel : ℕ) (a : RunAnswer) →
+    run w base f x used fuel j ≡ ran v k a → Named a

@@ -1,0 +1,186 @@
+/*
+ * Arboricx bundles for C: check a bundle, lay its nodes out in a lent table of words, and play it with an
+ * allowance of steps. Link with libarboricx.a (x86-64; `rt staticlib arboricx` writes it).
+ *
+ * Every call takes any bytes, any numbers and any tables. It checks everything itself, it ends, and it answers bad
+ * input with a number of the list below. It allocates nothing, keeps nothing between calls, and calls nothing but
+ * memcpy and memset of the C library.
+ * What is said here is proved of the calls' source (docs/GUARANTEES.md). What C has to keep:
+ *
+ *  - A pointer and its length name memory that is there: `file` and `name` may be read, `words`, `exports`, `jobs`
+ *    and `answer` may be read and written, for as long as the call lasts, and nobody else writes them meanwhile.
+ *  - No pointer is null, also where its length is 0, and each is aligned as its type asks.
+ *  - What a call may write does not overlap with anything else that the same call is lent.
+ *  - A length is at most SIZE_MAX / 2 bytes, as of any object in C.
+ *
+ * ---- The lent tables
+ *
+ * The table `words` belongs to the receiver up to word `base`, and to these calls from there on. No word before the
+ * base is read or written. Slot i is words base + 2i and base + 2i + 1:
+ *
+ *      leaf                   0        0
+ *      stem on slot a         a + 1    0
+ *      fork of slots a, b     a + 1    b + 1
+ *
+ * Slot 0 is the leaf after every accepted load and every run that was let start. The room is the smaller of
+ * ARBORICX_MAX_SLOTS and half the words from the base on, rounded down. The used count says how many slots are
+ * used, from slot 0 on.
+ *
+ * The table `jobs` holds the jobs that wait when a run stops, three words to a job, oldest first:
+ *
+ *      1, b, x    then b to x
+ *      2, v, 0    then the result to v
+ *      3, w, 0    then w to the result
+ *
+ * Its room is a third of its words, rounded down, at most ARBORICX_MAX_JOBS.
+ */
+#ifndef ARBORICX_H
+#define ARBORICX_H
+
+#include <stddef.h>
+#include <stdint.h>
+
+#ifdef __cplusplus
+extern "C" {
+#endif
+
+/*
+ * ---- The numbers
+ *
+ * 0 is success. A refusal answers the smallest number that applies, with every other number of the answer 0, and
+ * changes no word of any table but `answer`. 31, 32 and 33 are no refusals: the run was let start, and stopped.
+ */
+enum arboricx_number {
+    ARBORICX_OK = 0,
+    /* the file */
+    ARBORICX_FILE_TOO_LONG = 1,      /* over 65,536 bytes */
+    ARBORICX_FILE_TOO_SHORT = 2,     /* under 32 bytes */
+    ARBORICX_OTHER_MAGIC = 3,        /* the magic differs */
+    ARBORICX_OTHER_MAJOR = 4,        /* major is not 1 */
+    ARBORICX_NO_DIRECTORY = 5,       /* section count outside 1 to 16, directory offset not 32, or past the end of file */
+    ARBORICX_CRITICAL_SECTION = 6,   /* some entry of unknown type is critical */
+    ARBORICX_CODED_SECTION = 7,      /* some entry has compression not 0 or digest algorithm not 1 */
+    ARBORICX_SECTION_OUTSIDE = 8,    /* some entry's offset plus length passes the end of file */
+    ARBORICX_SECTION_REPEATED = 9,   /* the manifest or the nodes occur more than once */
+    ARBORICX_SECTION_MISSING = 10,   /* the manifest or the nodes are missing */
+    ARBORICX_DIGEST_DIFFERS = 11,    /* the digest of the manifest or of the nodes differs */
+    /* the manifest */
+    ARBORICX_MANIFEST_SHAPE = 12,    /* it does not have the stated shape */
+    ARBORICX_UNSUPPORTED = 13,       /* a fixed string or export abi differs, a capability is listed, or closure is 1 */
+    ARBORICX_EXPORT_NAMES = 14,      /* an export name is empty, over 64 bytes, or used twice */
+    /* the nodes */
+    ARBORICX_NODES_SHAPE = 15,       /* they do not have the stated shape, or count outside 1 to 512 */
+    ARBORICX_HASH_WRONG = 16,        /* a record's hash is wrong */
+    ARBORICX_HASH_TWICE = 17,        /* two records carry the same hash */
+    ARBORICX_CHILD_MISSING = 18,     /* a child has no record */
+    ARBORICX_CIRCLE = 19,            /* a node is its own descendant */
+    ARBORICX_HASH_UNRESOLVED = 20,   /* a root's or export's hash has no record */
+    /* the tables and the slots */
+    ARBORICX_NO_ROOM = 21,           /* base negative or past the end of the table; load: room below the node count;
+                                        run: used count 0 or above room */
+    ARBORICX_EXPORTS_TOO_SHORT = 22, /* export table shorter than the export count */
+    ARBORICX_NO_SLOT = 23,           /* run: a slot is negative or not below the used count */
+    ARBORICX_DAMAGED = 24,           /* run: the used slots are damaged */
+    ARBORICX_NO_EXPORT = 25,         /* no export of that name */
+    /* stops of a run */
+    ARBORICX_OUT_OF_FUEL = 31,       /* no fuel is left */
+    ARBORICX_OUT_OF_SLOTS = 32,      /* the next step makes a node, and no slot is left */
+    ARBORICX_OUT_OF_JOBS = 33        /* the next step adds a job, and no place is left */
+};
+
+/* ---- The sizes */
+
+#define ARBORICX_MAX_FILE 65536  /* bytes of a file */
+#define ARBORICX_MAX_NODES 512   /* nodes of a bundle */
+#define ARBORICX_MAX_EXPORTS 32  /* exports of a bundle */
+#define ARBORICX_MAX_NAME 64     /* bytes of an export's name */
+#define ARBORICX_MAX_SLOTS 65535 /* slots that are used of a table, however long it is */
+#define ARBORICX_MAX_JOBS 65535  /* jobs that may wait, however long the job table is */
+#define ARBORICX_SLOT_WORDS 2    /* words of a slot */
+#define ARBORICX_JOB_WORDS 3     /* words of a job */
+
+/* ---- The words of each answer. All of them are written at every call. */
+
+enum { ARBORICX_LOAD_NUMBER, ARBORICX_LOAD_NODES, ARBORICX_LOAD_EXPORTS, ARBORICX_LOAD_ANSWER };
+enum {
+    ARBORICX_RUN_NUMBER,
+    ARBORICX_RUN_SLOT, /* done: the slot of the result */
+    ARBORICX_RUN_F = ARBORICX_RUN_SLOT, /* stopped: the f still to be applied */
+    ARBORICX_RUN_X, /* stopped: the x that it is to be applied to; done: 0 */
+    ARBORICX_RUN_STEPS,
+    ARBORICX_RUN_USED,
+    ARBORICX_RUN_JOBS, /* stopped: how many jobs wait; done: 0 */
+    ARBORICX_RUN_ANSWER
+};
+enum { ARBORICX_INDEX_NUMBER, ARBORICX_INDEX, ARBORICX_INDEX_ANSWER };
+enum { ARBORICX_NAME_START, ARBORICX_NAME_LENGTH, ARBORICX_NAME_ANSWER };
+#define ARBORICX_DIGEST_BYTES 32
+
+/* ---- The calls */
+
+/*
+ * Checks a bundle by itself: 1 to 20, or 0 for a sound one. Changes nothing.
+ */
+uint32_t arboricx_check(const uint8_t *file, size_t file_len);
+
+/*
+ * Loads a bundle: 1 to 22, or 0.
+ *
+ * 0: the leaf is in slot 0; then, again and again, the earliest record of the file that is not placed and whose
+ * children all are has got the next slot. exports[i] is the slot of export i, in the manifest's order. The answer is 0,
+ * the node count, which is the used count for the first run, and the export count. All other words of both tables
+ * keep their contents.
+ * Else: the answer is the number, 0, 0. No word of either table has changed.
+ */
+uint32_t arboricx_load(const uint8_t *file, size_t file_len,
+                       uint32_t *words, size_t words_len, int32_t base,
+                       uint32_t *exports, size_t exports_len,
+                       uint32_t answer[ARBORICX_LOAD_ANSWER]);
+
+/*
+ * Applies slot f to slot x, with fuel for so many steps: 21, 23 or 24; 31, 32 or 33; or 0.
+ *
+ * `used` is the count that the last run not refused answered, or before any such run the load's node count. It is
+ * checked, as the used slots are: a table that was damaged meanwhile is refused.
+ * 0: done. The answer is 0, the slot of the result, 0, the steps taken, the used count now, 0.
+ * 31, 32, 33: stopped. The answer is the number, the f and the x still to be applied, the steps taken, the used count
+ * now, and how many jobs wait in the job table.
+ * In both cases each node made has taken the next slot, all words of `jobs` above the jobs that wait are 0, and all
+ * other words of `words` keep their contents. Steps are counted as the seven rules of the triage calculus are used; a
+ * run that is done with some fuel, slots and job places is done with more of each, with the same result and steps.
+ * 21, 23, 24: refused. The answer is the number and zeros. No word of either table has changed.
+ *
+ * Slots in the answer are never negative, so that they may be handed back as f and x.
+ */
+uint32_t arboricx_run(uint32_t *words, size_t words_len, int32_t base,
+                      int32_t f, int32_t x, uint32_t used, uint32_t fuel,
+                      uint32_t *jobs, size_t jobs_len,
+                      uint32_t answer[ARBORICX_RUN_ANSWER]);
+
+/*
+ * The index of the export with a name, which is any bytes; the empty name means the first export: 1 to 14, 25, or 0.
+ *
+ * 0: the answer is 0 and the index, which is also that of the export's slot in the table that a load writes.
+ * Else: the answer is the number and 0. The nodes of the file are not looked at, so that 15 to 20 are not answered.
+ */
+uint32_t arboricx_export_index(const uint8_t *file, size_t file_len,
+                               const uint8_t *name, size_t name_len,
+                               uint32_t answer[ARBORICX_INDEX_ANSWER]);
+
+/*
+ * The name of the export with an index: where it starts in the file, and how many bytes it has. It is valid UTF-8 with
+ * no zero byte behind it. Start and length are 0 where one of 1 to 14 holds or there is no such index.
+ */
+void arboricx_export_name(const uint8_t *file, size_t file_len, uint32_t index,
+                          size_t answer[ARBORICX_NAME_ANSWER]);
+
+/*
+ * SHA-256 (FIPS 180-4) of some bytes, by which sections and nodes are named.
+ */
+void arboricx_sha256(const uint8_t *bytes, size_t bytes_len, uint8_t digest[ARBORICX_DIGEST_BYTES]);
+
+#ifdef __cplusplus
+}
+#endif
+
+#endif
