@@ -14,7 +14,7 @@ use Rattle.bundle.specs.Exports as exports
 abbrev pub loadWords : LoadAnswer → List ℕ
 loadWords a = load.numbers a .number ∷ load.numbers a .nodes ∷ load.numbers a .exports ∷ []
 
--- a slot that was answered; it is never negative (SlotsPlain)
+-- a slot that was answered, which is never negative (SlotsNamed of engine)
 abbrev pub slotWord : ℤ → ℕ
 slotWord = natAbs
 

@@ -1,0 +1,313 @@
+/*
+ * Times the archive's calls beside plain C, and measures their stack. A report, not a test: it fails only where the two
+ * disagree in an answer.
+ */
+#include <stdio.h>
+#include <stdlib.h>
+#include <string.h>
+#include <time.h>
+
+#include "arboricx.h"
+#include "bench_bundles.h"
+#include "plain_run.h"
+#include "reference.h"
+#include "stack.h"
+#include "workloads.h"
+
+#ifndef BENCH_FLAGS
+#define BENCH_FLAGS "unknown"
+#endif
+
+enum {
+    ROUNDS = 61,
+    BUNDLES = 3,
+    JOB_WORDS = ARBORICX_JOB_WORDS * ARBORICX_MAX_JOBS,
+    TABLE_WORDS = ARBORICX_SLOT_WORDS * ARBORICX_MAX_NODES,
+    HASHED_BYTES = 64 * 1024
+};
+
+static const double aim = 0.9;
+
+static struct workload workloads[WORKLOADS];
+static struct bundle bundles[BUNDLES];
+static uint8_t hashed[HASHED_BYTES];
+
+/* ---- Timing */
+
+/* The least seconds of a call on either side, and the median over the rounds of how much faster the archive is. */
+struct race {
+    double archive, plain, median;
+};
+
+static double seconds(void)
+{
+    struct timespec t;
+    clock_gettime(CLOCK_MONOTONIC, &t);
+    return (double)t.tv_sec + 1e-9 * (double)t.tv_nsec;
+}
+
+static double time_calls(void (*call)(const void *), const void *input, int calls)
+{
+    const double start = seconds();
+    for (int i = 0; i < calls; i++) call(input);
+    return (seconds() - start) / calls;
+}
+
+static int by_value(const void *a, const void *b)
+{
+    const double x = *(const double *)a, y = *(const double *)b;
+    return (x > y) - (x < y);
+}
+
+/* The two sides take turns, and so does which of them begins. */
+static struct race race(void (*archive)(const void *), void (*plain)(const void *), const void *input, int calls)
+{
+    struct race r = {1e9, 1e9, 0};
+    double ratios[ROUNDS];
+    for (int i = 0; i < ROUNDS; i++) {
+        const double first = time_calls(i % 2 ? plain : archive, input, calls);
+        const double second = time_calls(i % 2 ? archive : plain, input, calls);
+        const double a = i % 2 ? second : first, p = i % 2 ? first : second;
+        if (a < r.archive) r.archive = a;
+        if (p < r.plain) r.plain = p;
+        ratios[i] = p / a;
+    }
+    qsort(ratios, ROUNDS, sizeof *ratios, by_value);
+    r.median = ratios[ROUNDS / 2];
+    return r;
+}
+
+/* The last cells of a row: the ratio of the speeds, and the aim where there is one. */
+static void print_ratio(struct race r, double least)
+{
+    printf(" %.2f (median %.2f) |", r.plain / r.archive, r.median);
+    if (least > 0) printf(" %.1f |\n", least);
+    else printf(" |\n");
+    fflush(stdout);
+}
+
+static void disagree(const char *what)
+{
+    fprintf(stderr, "the archive and plain C disagree: %s\n", what);
+    exit(1);
+}
+
+/* ---- Runs */
+
+static void archive_run(const void *input)
+{
+    uint32_t answer[ARBORICX_RUN_ANSWER];
+    const struct workload *w = input;
+    arboricx_run(w->words, WORKLOAD_WORDS, 0, w->f, w->x, w->used, w->fuel, w->jobs, w->jobs_len, answer);
+}
+
+static void c_run(const void *input)
+{
+    uint32_t answer[ARBORICX_RUN_ANSWER];
+    const struct workload *w = input;
+    plain_run(w->words, WORKLOAD_WORDS, 0, w->f, w->x, w->used, w->fuel, w->jobs, w->jobs_len, answer);
+}
+
+static void clear_unused(const struct workload *w)
+{
+    const size_t used = ARBORICX_SLOT_WORDS * (size_t)w->used;
+    memset(w->words + used, 0, (WORKLOAD_WORDS - used) * sizeof *w->words);
+    memset(w->jobs, 0, w->jobs_len * sizeof *w->jobs);
+}
+
+/* Both sides from the same tables: the same answer, the same words of both tables. */
+static void compare_runs(const struct workload *w, uint32_t answer[ARBORICX_RUN_ANSWER])
+{
+    static uint32_t words[WORKLOAD_WORDS], jobs[JOB_WORDS];
+    uint32_t plain[ARBORICX_RUN_ANSWER];
+    clear_unused(w);
+    arboricx_run(w->words, WORKLOAD_WORDS, 0, w->f, w->x, w->used, w->fuel, w->jobs, w->jobs_len, answer);
+    memcpy(words, w->words, sizeof words);
+    memcpy(jobs, w->jobs, w->jobs_len * sizeof *jobs);
+    clear_unused(w);
+    plain_run(w->words, WORKLOAD_WORDS, 0, w->f, w->x, w->used, w->fuel, w->jobs, w->jobs_len, plain);
+    if (memcmp(answer, plain, sizeof plain) != 0) disagree(w->name);
+    if (memcmp(words, w->words, sizeof words) != 0) disagree(w->name);
+    if (memcmp(jobs, w->jobs, w->jobs_len * sizeof *jobs) != 0) disagree(w->name);
+}
+
+/* The most jobs that wait at once: the least job room with which a run does not stop for want of a place. */
+static size_t most_jobs(struct workload w)
+{
+    uint32_t answer[ARBORICX_RUN_ANSWER];
+    size_t low = 0, high = w.jobs_len / ARBORICX_JOB_WORDS;
+    while (low < high) {
+        const size_t middle = (low + high) / 2;
+        w.jobs_len = ARBORICX_JOB_WORDS * middle;
+        compare_runs(&w, answer);
+        if (answer[ARBORICX_RUN_NUMBER] == ARBORICX_OUT_OF_JOBS) low = middle + 1;
+        else high = middle;
+    }
+    return low;
+}
+
+/* The same with half the steps, and with a place for jobs too few: stops 31 and 33. */
+static void compare_stops(struct workload w, uint32_t steps, size_t most)
+{
+    uint32_t answer[ARBORICX_RUN_ANSWER];
+    w.fuel = steps / 2;
+    compare_runs(&w, answer);
+    if (answer[ARBORICX_RUN_NUMBER] != ARBORICX_OUT_OF_FUEL) disagree(w.name);
+    w.fuel = steps;
+    w.jobs_len = ARBORICX_JOB_WORDS * (most - 1);
+    compare_runs(&w, answer);
+    if (answer[ARBORICX_RUN_NUMBER] != ARBORICX_OUT_OF_JOBS) disagree(w.name);
+}
+
+static void run_row(const struct workload *w)
+{
+    uint32_t answer[ARBORICX_RUN_ANSWER];
+    compare_runs(w, answer);
+    const size_t most = most_jobs(*w);
+    const double steps = answer[ARBORICX_RUN_STEPS];
+    compare_stops(*w, answer[ARBORICX_RUN_STEPS], most);
+    const struct race r = race(archive_run, c_run, w, (int)(4e6 / steps) + 1);
+    printf("| run, %s: %.0f steps, %u nodes, %zu jobs at most |", w->name, steps,
+           (unsigned)(answer[ARBORICX_RUN_USED] - w->used), most);
+    printf(" %.0f million steps/s | %.0f million steps/s |", steps / r.archive / 1e6, steps / r.plain / 1e6);
+    print_ratio(r, aim);
+}
+
+/* ---- The check of the used slots that a run begins with */
+
+/* Part of a table that is filled to the end; a run with no fuel and no job places does little but the check. */
+struct entry {
+    uint32_t *words;
+    uint32_t used;
+    uint32_t *jobs;
+};
+
+static void archive_entry(const void *input)
+{
+    uint32_t answer[ARBORICX_RUN_ANSWER];
+    const struct entry *e = input;
+    arboricx_run(e->words, WORKLOAD_WORDS, 0, 0, 0, e->used, 0, e->jobs, 0, answer);
+}
+
+static void c_entry(const void *input)
+{
+    const struct entry *e = input;
+    if (!plain_sound(e->words, e->used)) disagree("used slots");
+}
+
+static void entry_row(struct entry e)
+{
+    uint32_t answer[ARBORICX_RUN_ANSWER];
+    arboricx_run(e.words, WORKLOAD_WORDS, 0, 0, 0, e.used, 0, e.jobs, 0, answer);
+    if (answer[ARBORICX_RUN_NUMBER] != ARBORICX_OUT_OF_FUEL || !plain_sound(e.words, e.used)) disagree("used slots");
+    const struct race r = race(archive_entry, c_entry, &e, 2000000 / ((int)e.used + 20));
+    printf("| run without fuel: check of %u used slots |", (unsigned)e.used);
+    printf(" %.1f ns, %.2f ns a slot |", 1e9 * r.archive, 1e9 * r.archive / e.used);
+    printf(" %.1f ns, %.2f ns a slot |", 1e9 * r.plain, 1e9 * r.plain / e.used);
+    print_ratio(r, 0);
+}
+
+static void entry_rows(void)
+{
+    static const uint32_t counts[] = {1, 64, 512, 4096, ARBORICX_MAX_SLOTS};
+    static uint32_t words[WORKLOAD_WORDS], jobs[ARBORICX_JOB_WORDS];
+    for (uint32_t i = 1; i < ARBORICX_MAX_SLOTS; i++) { /* stems and forks by turns, each on earlier slots */
+        words[ARBORICX_SLOT_WORDS * i] = i;
+        words[ARBORICX_SLOT_WORDS * i + 1] = i % 2 ? i / 2 + 1 : 0;
+    }
+    for (size_t i = 0; i < sizeof counts / sizeof *counts; i++) entry_row((struct entry){words, counts[i], jobs});
+}
+
+/* ---- SHA-256 */
+
+static void archive_sha256(const void *input)
+{
+    uint8_t digest[ARBORICX_DIGEST_BYTES];
+    arboricx_sha256(input, HASHED_BYTES, digest);
+}
+
+static void c_sha256(const void *input)
+{
+    uint8_t digest[ARBORICX_DIGEST_BYTES];
+    reference_sha256(input, HASHED_BYTES, digest);
+}
+
+static void sha256_row(void)
+{
+    uint8_t archive[ARBORICX_DIGEST_BYTES], plain[ARBORICX_DIGEST_BYTES];
+    for (size_t i = 0; i < HASHED_BYTES; i++) hashed[i] = (uint8_t)(i * 167 + i / 251);
+    arboricx_sha256(hashed, HASHED_BYTES, archive);
+    reference_sha256(hashed, HASHED_BYTES, plain);
+    if (memcmp(archive, plain, sizeof plain) != 0) disagree("SHA-256");
+    const struct race r = race(archive_sha256, c_sha256, hashed, 20);
+    printf("| SHA-256 of %d bytes | %.1f MB/s | %.1f MB/s |", HASHED_BYTES, HASHED_BYTES / r.archive / 1e6,
+           HASHED_BYTES / r.plain / 1e6);
+    print_ratio(r, aim);
+}
+
+/* ---- Loads */
+
+/* The lent tables and the answer of one load. */
+struct lent {
+    uint32_t words[TABLE_WORDS], exports[ARBORICX_MAX_EXPORTS], answer[ARBORICX_LOAD_ANSWER];
+};
+
+static struct lent archive_lent, c_lent;
+
+static void archive_load(const void *input)
+{
+    struct lent *const l = &archive_lent;
+    const struct bundle *b = input;
+    arboricx_load(b->bytes, b->len, l->words, TABLE_WORDS, 0, l->exports, ARBORICX_MAX_EXPORTS, l->answer);
+}
+
+static void c_load(const void *input)
+{
+    struct lent *const l = &c_lent;
+    const struct bundle *b = input;
+    reference_load(b->bytes, b->len, l->words, TABLE_WORDS, 0, l->exports, ARBORICX_MAX_EXPORTS, l->answer);
+}
+
+static void load_row(const struct bundle *b)
+{
+    memset(&archive_lent, 0, sizeof archive_lent);
+    memset(&c_lent, 0, sizeof c_lent);
+    archive_load(b);
+    c_load(b);
+    if (memcmp(&archive_lent, &c_lent, sizeof c_lent) != 0) disagree("load");
+    if (archive_lent.answer[ARBORICX_LOAD_NODES] != b->nodes) disagree("load");
+    const struct race r = race(archive_load, c_load, b, 1 + 2000 / (int)(b->nodes + 10));
+    printf("| load, nodes: %u, bytes: %zu | %.1f us | %.1f us |", (unsigned)b->nodes, b->len, 1e6 * r.archive,
+           1e6 * r.plain);
+    print_ratio(r, aim);
+}
+
+/* ---- The report */
+
+static void print_machine(void)
+{
+    char line[256];
+    FILE *f = fopen("/proc/cpuinfo", "r");
+    const char *model = NULL;
+    while (f != NULL && model == NULL && fgets(line, sizeof line, f) != NULL) {
+        if (strncmp(line, "model name", 10) == 0) model = strchr(line, ':');
+    }
+    if (f != NULL) fclose(f);
+    printf("Machine: %s", model != NULL ? model + 2 : "unknown\n");
+    printf("Plain C: compiler %s, %s\n\n", __VERSION__, BENCH_FLAGS);
+}
+
+int main(void)
+{
+    static const uint32_t node_counts[BUNDLES] = {1, 64, ARBORICX_MAX_NODES};
+    make_workloads(workloads);
+    for (int i = 0; i < BUNDLES; i++) make_bundle(&bundles[i], node_counts[i]);
+    print_machine();
+    printf("| Measure | Archive | Plain C | Ratio | Aim |\n|---|---|---|---|---|\n");
+    for (int i = 0; i < WORKLOADS; i++) run_row(&workloads[i]);
+    sha256_row();
+    for (int i = 0; i < BUNDLES; i++) load_row(&bundles[i]);
+    entry_rows();
+    print_stack_rows(bundles, BUNDLES, workloads);
+    return 0;
+}

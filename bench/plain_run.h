@@ -1,0 +1,25 @@
+/*
+ * The yardstick for arboricx_run: the same seven rules over the same tables in plain C, with no check of the base, the
+ * slots or the table, and no clearing of the job table.
+ */
+#ifndef PLAIN_RUN_H
+#define PLAIN_RUN_H
+
+#include <stddef.h>
+#include <stdint.h>
+
+#include "arboricx.h"
+
+/*
+ * Answers as arboricx_run does where that one lets the run start. The words of `jobs` above the jobs that wait are left
+ * as they are.
+ */
+uint32_t plain_run(uint32_t *words, size_t words_len, int32_t base,
+                   int32_t f, int32_t x, uint32_t used, uint32_t fuel,
+                   uint32_t *jobs, size_t jobs_len,
+                   uint32_t answer[ARBORICX_RUN_ANSWER]);
+
+/* The test of the used slots by itself: 1 where they are sound, else 0. */
+int plain_sound(const uint32_t *slots, uint32_t used);
+
+#endif

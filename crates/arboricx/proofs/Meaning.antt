@@ -1,0 +1,11 @@
+-- The words of an answer mean what specs/Meaning.antt says.
+use mathlib.Core.Path.{refl}
+use native.Mathlib.Nat.{add-zero, zero-add}
+use Rattle.engine.specs.declared.RunAnswer.the-variants.{Refused, Done, Stopped}
+use Rattle.arboricx.specs.Answers.{slotWord}
+use Rattle.arboricx.specs.Meaning.{RunWordsAre}
+
+pub run-words-are : RunWordsAre
+run-words-are (Refused n) = refl
+run-words-are (Done slot steps used) = rw (add-zero (slotWord slot))
+run-words-are (Stopped n f x steps used waiting) = rw (zero-add (slotWord f))

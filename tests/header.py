@@ -1,0 +1,161 @@
+#!/usr/bin/env python3
+"""Whether include/arboricx.h, the archive and the Rattle source that it is made of agree.
+
+    tests/header.py ARCHIVE
+
+Names: the functions that the header declares are those that the source exports and the archive defines, and the archive wants
+nothing else than memcpy and memset. Arguments: each function is declared once more, as its source has it, beside the header; the
+compiler refuses two declarations that differ. The arguments have the same names too. Sizes: each lent array has the
+length that the source says, and each limit of the header is the source's constant. The header is C99, C11 and C++.
+
+Then the same is asked of headers that are wrong, each in one place; the test fails if one of them passes.
+"""
+
+import pathlib
+import re
+import subprocess
+import sys
+import tempfile
+
+ROOT = pathlib.Path(__file__).resolve().parent.parent
+SOURCE = (ROOT / "crates/arboricx/src/lib.rt").read_text()
+HEADER = (ROOT / "include/arboricx.h").read_text()
+SIZES = (ROOT / "crates/sizes/src/lib.rt").read_text()
+LIMITS = (ROOT / "crates/table/src/limits.rt").read_text()
+
+C_TYPE = {"u8": "uint8_t", "u32": "uint32_t", "i32": "int32_t", "usize": "size_t"}
+
+
+class Differs(Exception):
+    pass
+
+
+def agree(what, ours, theirs):
+    if ours != theirs:
+        raise Differs(f"{what}: {ours} and {theirs}")
+
+
+def exported(source):
+    """Each exported function: its result, and for each argument its name and its type."""
+    found = {}
+    for name, arguments, result in re.findall(r'#\[no_mangle\]\s*pub extern "C" fn (\w+)\((.*?)\)\s*(?:-> (\w+))?\s*ensures', source, re.S):
+        pairs = [a.split(":", 1) for a in arguments.split(",\n" if "\n" in arguments else ", ") if a.strip()]
+        found[name] = (result, [(n.strip(), t.strip().rstrip(",")) for n, t in pairs])
+    agree("exports that were read", len(found), source.count("#[no_mangle]"))
+    return found
+
+
+def in_c(name, kind):
+    """An argument as C has it: names, types, and the length of a lent array."""
+    if array := re.fullmatch(r"&mut \[(\w+); (\d+)\]", kind):
+        return [(name, f"{C_TYPE[array[1]]} [{array[2]}]", int(array[2]))]
+    if part := re.fullmatch(r"&(mut )?\[(\w+)\]", kind):
+        return [(name, ("" if part[1] else "const ") + C_TYPE[part[2]] + " *", None), (name + "_len", "size_t", None)]
+    return [(name, C_TYPE[kind], None)]
+
+
+def declared(header):
+    """Each function of the header: for each argument its name, and the length of a lent array as it is written."""
+    text = re.sub(r"/\*.*?\*/", "", header, flags=re.S)
+    found = {}
+    for name, arguments in re.findall(r"^\w+ (\w+)\(([^)]*)\);", text, re.M):
+        found[name] = [re.fullmatch(r".*?(\w+)(?:\[(\w+)\])?", a.strip(), re.S).groups() for a in arguments.split(",")]
+    return found
+
+
+def symbols(archive):
+    listed = subprocess.run(["nm", archive], check=True, capture_output=True, text=True).stdout
+    kinds = {"T": set(), "U": set()}
+    for kind, name in re.findall(r" ([A-Z]) (\S+)$", listed, re.M):
+        kinds.setdefault(kind, set()).add(name)
+    return kinds
+
+
+def limits():
+    """The constants of the source behind the limits of the header."""
+    most = {n: int(m) for n, m in re.findall(r"const (\w+): Size = Size \{.*?most: (\d+)", SIZES, re.S)}
+    cap = {n: int(m) for n, m in re.findall(r"const (\w+): Limit = Limit\((\d+)\)", LIMITS)}
+    return {
+        "ARBORICX_MAX_FILE": most["FILE"],
+        "ARBORICX_MAX_NODES": most["NODES"],
+        "ARBORICX_MAX_EXPORTS": most["EXPORTS"],
+        "ARBORICX_MAX_NAME": most["NAME"],
+        "ARBORICX_MAX_SLOTS": cap["SLOTS"],
+        "ARBORICX_MAX_JOBS": cap["FRAMES"],
+    }
+
+
+def second_opinion(functions, header):
+    """C text that the compiler takes only if the header agrees with the source."""
+    lines = ['#include "arboricx.h"', "_Static_assert(sizeof(size_t) == 8, \"x86-64\");"]
+    for name, (result, arguments) in functions.items():
+        kinds = [a for n, t in arguments for a in in_c(n, t)]
+        lines.append(f"{C_TYPE.get(result, 'void')} {name}({', '.join(k for _, k, _ in kinds)});")
+        for (_, bound), (argument, _, length) in zip(header[name], kinds):
+            agree(f"{name}, whether {argument} is a lent array", bound is not None, length is not None)
+            if bound is not None:
+                lines.append(f'_Static_assert({bound} == {length}, "{name}, {argument}");')
+    lines += [f'_Static_assert({name} == {value}, "{name}");' for name, value in limits().items()]
+    lines.append(f"void (*const volatile calls[])(void) = {{{', '.join(f'(void (*)(void)){name}' for name in functions)}}};")
+    return "\n".join([*lines, "int main(void) { return calls[0] == 0; }", ""])
+
+
+def compiles(command, label):
+    done = subprocess.run(command, capture_output=True, text=True)
+    if done.returncode != 0:
+        raise Differs(f"{label}: {done.stderr or done.returncode}")
+
+
+def judge(header_text, archive):
+    functions, header, names = exported(SOURCE), declared(header_text), symbols(archive)
+    agree("names of the header and of the source", sorted(header), sorted(functions))
+    agree("names of the archive and of the source", sorted(names["T"]), sorted(functions))
+    agree("what the archive wants", sorted(names["U"] - {"memcpy", "memset"}), [])
+    for name, (_, arguments) in functions.items():
+        agree(f"arguments of {name}", [n for n, _ in header[name]], [c for n, t in arguments for c, _, _ in in_c(n, t)])
+    with tempfile.TemporaryDirectory() as folder:
+        here = pathlib.Path(folder)
+        (here / "arboricx.h").write_text(header_text)
+        (here / "agree.c").write_text(second_opinion(functions, header))
+        (here / "agree.cc").write_text('#include "arboricx.h"\nint main() { return 0; }\n')
+        strict = ["-Wall", "-Wextra", "-Wpedantic", "-Werror", "-I", folder]
+        compiles(["cc", "-std=c11", *strict, here / "agree.c", archive, "-o", here / "agree"], "C11")
+        compiles([here / "agree"], "every name is linked")
+        compiles(["cc", "-std=c99", *strict, "-fsyntax-only", "-x", "c", here / "arboricx.h"], "C99")
+        compiles(["c++", *strict, here / "agree.cc", "-o", here / "agree"], "C++")
+
+
+WRONG = [
+    ("another name", "arboricx_load(", "arboricx_lade("),
+    ("a call that is not there", "uint32_t arboricx_check(", "uint32_t arboricx_test(void);\nuint32_t arboricx_check("),
+    ("an unsigned base", "size_t words_len, int32_t base,\n                       uint32_t *exports", "size_t words_len, uint32_t base,\n                       uint32_t *exports"),
+    ("a short length", "uint32_t *jobs, size_t jobs_len", "uint32_t *jobs, uint32_t jobs_len"),
+    ("a file that is written", "arboricx_check(const uint8_t *file", "arboricx_check(uint8_t *file"),
+    ("f and x swapped", "int32_t f, int32_t x", "int32_t x, int32_t f"),
+    ("no fuel", "uint32_t used, uint32_t fuel,", "uint32_t used,"),
+    ("a result", "void arboricx_export_name(", "uint32_t arboricx_export_name("),
+    ("no result", "uint32_t arboricx_run(", "void arboricx_run("),
+    ("a short answer", "    ARBORICX_RUN_JOBS, ", "    "),
+    ("words for places", "size_t answer[ARBORICX_NAME_ANSWER]", "uint32_t answer[ARBORICX_NAME_ANSWER]"),
+    ("another limit", "ARBORICX_MAX_SLOTS 65535", "ARBORICX_MAX_SLOTS 65536"),
+    ("a half digest", "ARBORICX_DIGEST_BYTES 32", "ARBORICX_DIGEST_BYTES 16"),
+]
+
+
+def main(archive):
+    judge(HEADER, archive)
+    for label, old, new in WRONG:
+        agree(f"places to try '{label}' at", HEADER.count(old), 1)
+        try:
+            judge(HEADER.replace(old, new), archive)
+        except Differs:
+            continue
+        raise Differs(f"a header with {label} passes")
+    print(f"header: {len(exported(SOURCE))} calls agree; {len(WRONG)} wrong headers are refused")
+
+
+if __name__ == "__main__":
+    try:
+        main(str(pathlib.Path(sys.argv[1]).resolve()))
+    except Differs as difference:
+        sys.exit(f"header: {difference}")
