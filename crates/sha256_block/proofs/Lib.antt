@@ -1,4 +1,5 @@
 pub mod Lists
+pub mod Sums
 pub mod Words
 pub mod FourRounds
 pub mod Blocks

@@ -1,8 +1,9 @@
 // SHA-256 block by block (FIPS 180-4, §6.2.2), and the length that the padding ends with.
 ghost use mathlib.Core.Path.{_≡_};
-ghost use Prim.Native.Nat.{_+_, _≤_, _<_};
-ghost use lib.ListN.{length};
-ghost use Rattle.sha256_block.specs.Fips180.{K, T1, T2, wordAt, mixed, nextWord, schedule, initial, round, rounds};
+ghost use mathlib.Core.List.{List};
+ghost use Prim.Native.Nat.{ℕ, _+_, _≤_, _<_};
+ghost use lib.ListN.{length, take};
+ghost use Rattle.sha256_block.specs.Fips180.{K, T1, T2, wordAt, mixed, schedule, initial, round, rounds};
 ghost use Rattle.sha256_block.specs.Fips180.{combined, compress, hashAll, bytesOf, lengthBytes};
 
 mod word;
@@ -107,21 +108,42 @@ fn word_at(block: &[u8], t: usize) -> u32
     word_of(block[at], block[at + 1], block[at + 2], block[at + 3])
 }
 
+// The word that is newest goes into the sum last: the others need not wait for it.
 fn mixed(w2: u32, w7: u32, w15: u32, w16: u32) -> u32
     ensures { λ r. ⌜ r ≡ mixed w2 w7 w15 w16 ⌝ }
 {
-    add(add(add(small_sigma1(w2), w7), small_sigma0(w15)), w16)
+    add(add(add(small_sigma0(w15), w16), w7), small_sigma1(w2))
 }
 
-// Word t of the message schedule, whose words before t are in w.
-fn next_word(block: &[u8], t: usize, w: &[u32; 64]) -> u32
-    requires { ⌜ (length (now block) ≡ 64) × (t < 64) ⌝ }
-    ensures { λ r. ⌜ r ≡ nextWord (now (block .entry)) t (now (w .entry)) ⌝ }
+// The first 16 words of the message schedule, which are the block's.
+fn message(block: &[u8]) -> [u32; 64]
+    requires { ⌜ length (now block) ≡ 64 ⌝ }
+    ensures { λ r. ⌜ take 16 r ≡ schedule (now (block .entry)) 16 ⌝ }
 {
-    if t < 16 {
-        word_at(block, t)
-    } else {
-        mixed(w[t - 2], w[t - 7], w[t - 15], w[t - 16])
+    let mut w = [0u32; 64];
+    let mut t: usize = 0;
+    while t < 16 {
+        w[t] = word_at(block, t);
+        t += 1;
+    }
+    w
+}
+
+// The other 48 words. Two a turn: x and y are the two newest words, which the next two need at once, and so they stay in
+// registers and are not read back from w.
+fn extend(w: &mut [u32; 64])
+    requires { ⌜ length (now w) ≡ 64 ⌝ }
+    ensures { λ r. ⌜ ((m : List ℕ) → take 16 (now (w .entry)) ≡ schedule m 16 → now (w .exit) ≡ schedule m 64) ⌝ }
+{
+    let mut x = w[14];
+    let mut y = w[15];
+    let mut t: usize = 16;
+    while t < 64 {
+        x = mixed(x, w[t - 7], w[t - 15], w[t - 16]);
+        w[t] = x;
+        y = mixed(y, w[t - 6], w[t - 14], w[t - 15]);
+        w[t + 1] = y;
+        t += 2;
     }
 }
 
@@ -130,12 +152,8 @@ fn schedule(block: &[u8]) -> [u32; 64]
     requires { ⌜ length (now block) ≡ 64 ⌝ }
     ensures { λ r. ⌜ r ≡ schedule (now (block .entry)) 64 ⌝ }
 {
-    let mut w = [0u32; 64];
-    let mut t: usize = 0;
-    while t < 64 {
-        w[t] = next_word(block, t, &w);
-        t += 1;
-    }
+    let mut w = message(block);
+    extend(&mut w);
     w
 }
 
