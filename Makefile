@@ -1,35 +1,72 @@
-# What is for C. The archive is proved and built by the Rattle kit; the rest needs a C compiler.
+# What is for C. The Rattle kit proves and builds the archive; the rest needs a C compiler, and Python for tests/header.py.
 #
+#   make            the archive, target/staticlib/libarboricx.a
 #   make host       target/c/play, which plays an opponent out of a bundle
 #   make test       the outside tests, as the gate runs them: under two minutes
-#   make test-full  200,000 cases, and 50,000 with sanitizers
+#   make test-full  250,000 cases, and 50,000 with sanitizers; SEED=2 for others
 #   make bench      the archive beside plain C
 
 OUT = target/c
 ARCHIVE = target/staticlib/libarboricx.a
-CFLAGS = -std=c11 -O2 -Wall -Wextra -Wpedantic -Iinclude
-SANITIZE = -std=c11 -O1 -g -fsanitize=address,undefined -fno-sanitize-recover=all -Wall -Wextra -Wpedantic -Iinclude
-TESTS = $(wildcard tests/*.c) $(wildcard tests/*.h) include/arboricx.h
+SEED = 1
+STRICT = -Wall -Wextra -Wpedantic -Iinclude -Itests
+CFLAGS = -std=c11 -O2 $(STRICT)
+SANITIZE = -std=c11 -O1 -g -fsanitize=address,undefined -fno-sanitize-recover=all $(STRICT)
+TESTS = $(wildcard tests/*.c)
 BENCH = $(wildcard bench/*.c) tests/reference.c
+HEADERS = $(wildcard include/*.h tests/*.h bench/*.h)
 
-.PHONY: all archive host test test-full bench
-all: archive host
-
+.PHONY: archive host test test-full header played faults bench
 archive:
-	rt staticlib arboricx
+	@mkdir -p $(OUT)
+	@rt staticlib arboricx >$(OUT)/archive.log || { cat $(OUT)/archive.log; exit 1; }
+	@tail -n 1 $(OUT)/archive.log
 
 $(ARCHIVE): archive
 
-$(OUT):
-	mkdir -p $@
+# ---- the host
 
 host: $(OUT)/play
 
-$(OUT)/play: host/play.c include/arboricx.h $(ARCHIVE) | $(OUT)
-	$(CC) $(CFLAGS) host/play.c $(ARCHIVE) -o $@
+$(OUT)/play: host/play.c $(HEADERS) $(ARCHIVE)
+	$(CC) $(CFLAGS) -Wconversion $< $(ARCHIVE) -o $@
 
-$(OUT)/compare: $(TESTS) $(ARCHIVE) | $(OUT)
-	$(CC) $(CFLAGS) -Itests tests/*.c $(ARCHIVE) -o $@
+# ---- the outside tests
 
-$(OUT)/compare-sanitized: $(TESTS) $(ARCHIVE) | $(OUT)
-	$(CC) $(SANITIZE) -Itests tests/*.c $(ARCHIVE) -o $@
+$(OUT)/compare: $(TESTS) $(HEADERS) $(ARCHIVE)
+	$(CC) $(CFLAGS) $(TESTS) $(ARCHIVE) -o $@
+
+$(OUT)/compare-sanitized: $(TESTS) $(HEADERS) $(ARCHIVE)
+	$(CC) $(SANITIZE) $(TESTS) $(ARCHIVE) -o $@
+
+$(OUT)/compare-faults: $(TESTS) $(HEADERS) $(ARCHIVE)
+	$(CC) $(CFLAGS) -DREFERENCE_FAULTS $(TESTS) $(ARCHIVE) -o $@
+
+test: header played faults $(OUT)/compare $(OUT)/compare-sanitized
+	$(OUT)/compare --seed $(SEED) --count 40000
+	$(OUT)/compare-sanitized --seed $(SEED) --count 8000
+
+test-full: header played faults $(OUT)/compare $(OUT)/compare-sanitized
+	$(OUT)/compare --seed $(SEED) --count 250000 --zeros 1
+	$(OUT)/compare-sanitized --seed $(SEED) --count 50000
+
+# The header, the archive and the source agree in what they declare.
+header: $(ARCHIVE)
+	python3 tests/header.py $(ARCHIVE)
+
+# The host plays the sample bundle as expected.
+played: $(OUT)/play
+	sh tests/play.sh $(OUT)/play
+
+# A reference that is wrong in one way is found out; each way is tried.
+faults: $(OUT)/compare-faults
+	sh tests/faults.sh $(OUT)/compare-faults
+
+# ---- the bench
+
+$(OUT)/bench: $(BENCH) $(HEADERS) $(ARCHIVE)
+	$(CC) $(CFLAGS) -D_DEFAULT_SOURCE -DBENCH_FLAGS='"-O2"' $(BENCH) $(ARCHIVE) -Wl,-z,now -o $@
+
+bench: $(OUT)/bench
+	$(OUT)/bench
+	sh bench/size.sh $(ARCHIVE)

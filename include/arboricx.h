@@ -1,17 +1,20 @@
 /*
  * Arboricx bundles for C: check a bundle, lay its nodes out in a lent table of words, and play it with an
- * allowance of steps. Link with libarboricx.a (x86-64; `rt staticlib arboricx` writes it).
+ * allowance of steps. Link with libarboricx.a (x86-64, System V calls), which `make` builds. README.md has an example,
+ * host/play.c a whole host.
  *
  * Every call takes any bytes, any numbers and any tables. It checks everything itself, it ends, and it answers bad
  * input with a number of the list below. It allocates nothing, keeps nothing between calls, and calls nothing but
- * memcpy and memset of the C library.
- * What is said here is proved of the calls' source (docs/GUARANTEES.md). What C has to keep:
+ * memcpy and memset of the C library. It needs at most ARBORICX_STACK bytes of stack.
+ * What is said here is proved of the calls' source (docs/GUARANTEES.md), but for the stack, which is measured. What C
+ * has to keep (docs/TRUST.md):
  *
- *  - A pointer and its length name memory that is there: `file` and `name` may be read, `words`, `exports`, `jobs`
- *    and `answer` may be read and written, for as long as the call lasts, and nobody else writes them meanwhile.
+ *  - A pointer and its length name memory that is there: `file`, `name` and `bytes` may be read, all else may be read and
+ *    written, for as long as the call lasts, and nobody else writes it meanwhile.
  *  - No pointer is null, also where its length is 0, and each is aligned as its type asks.
  *  - What a call may write does not overlap with anything else that the same call is lent.
- *  - A length is at most SIZE_MAX / 2 bytes, as of any object in C.
+ *  - The memory that a pointer and its length name has at most SIZE_MAX / 2 bytes, as any object in C. Lengths count
+ *    elements: bytes of a file, words of a table.
  *
  * ---- The lent tables
  *
@@ -22,9 +25,14 @@
  *      stem on slot a         a + 1    0
  *      fork of slots a, b     a + 1    b + 1
  *
- * Slot 0 is the leaf after every accepted load and every run that was let start. The room is the smaller of
- * ARBORICX_MAX_SLOTS and half the words from the base on, rounded down. The used count says how many slots are
- * used, from slot 0 on.
+ * The room is the smaller of ARBORICX_MAX_SLOTS and half the words from the base on, rounded down. A load needs a slot
+ * for each node, so that 2 * ARBORICX_MAX_NODES words from the base on and ARBORICX_MAX_EXPORTS export words do for every
+ * bundle; a run needs one more for each node that it makes.
+ *
+ * The used count says how many slots are used, from slot 0 on. The used slots are sound when slot 0 is (0, 0) and in each
+ * later slot i the first word is 1 to i and the second 0 to i; else they are damaged. A load leaves sound slots, and so
+ * does every run. A run takes any sound slots, whoever wrote them. Slot 0 is the leaf after every accepted load and
+ * every run that was let start.
  *
  * The table `jobs` holds the jobs that wait when a run stops, three words to a job, oldest first:
  *
@@ -32,7 +40,24 @@
  *      2, v, 0    then the result to v
  *      3, w, 0    then w to the result
  *
- * Its room is a third of its words, rounded down, at most ARBORICX_MAX_JOBS.
+ * Its room is a third of its words, rounded down, at most ARBORICX_MAX_JOBS. A run that is let start zeroes the whole
+ * table first, however long it is, so that a table no longer than needed saves time.
+ *
+ * ---- The seven rules
+ *
+ * A run applies f to x by the triage calculus. Each rule used is one step:
+ *
+ *      1. f leaf                               makes stem x
+ *      2. f stem a                             makes fork a x
+ *      3. f fork(leaf, a)                      gives a
+ *      4. f fork(stem a, b)                    applies a to x; then b to x waits
+ *      5. f fork(fork(a, b), c), x leaf        gives a
+ *      6. the same f, x stem u                 applies b to u
+ *      7. the same f, x fork(u, v)             applies c to u; then the result to v waits
+ *
+ * A node made takes the next slot. A tree given or made meets the newest job, at no cost; with no job left the run is
+ * done. Before each step: no fuel, stop 31; a node to be made and no slot left, 32; a job to be added and no place
+ * left, 33.
  */
 #ifndef ARBORICX_H
 #define ARBORICX_H
@@ -98,6 +123,7 @@ enum arboricx_number {
 #define ARBORICX_MAX_JOBS 65535  /* jobs that may wait, however long the job table is */
 #define ARBORICX_SLOT_WORDS 2    /* words of a slot */
 #define ARBORICX_JOB_WORDS 3     /* words of a job */
+#define ARBORICX_STACK 16384     /* bytes of stack that a call needs at most; a run needs under 1,024 */
 
 /* ---- The words of each answer. All of them are written at every call. */
 
@@ -146,11 +172,11 @@ uint32_t arboricx_load(const uint8_t *file, size_t file_len,
  * 31, 32, 33: stopped. The answer is the number, the f and the x still to be applied, the steps taken, the used count
  * now, and how many jobs wait in the job table.
  * In both cases each node made has taken the next slot, all words of `jobs` above the jobs that wait are 0, and all
- * other words of `words` keep their contents. Steps are counted as the seven rules of the triage calculus are used; a
- * run that is done with some fuel, slots and job places is done with more of each, with the same result and steps.
+ * other words of `words` keep their contents. A run that is done with some fuel, slots and job places is done with more
+ * of each, with the same result and steps.
  * 21, 23, 24: refused. The answer is the number and zeros. No word of either table has changed.
  *
- * Slots in the answer are never negative, so that they may be handed back as f and x.
+ * Slots in the answer are used slots, at most 65,534, so that they may be handed back as f and x.
  */
 uint32_t arboricx_run(uint32_t *words, size_t words_len, int32_t base,
                       int32_t f, int32_t x, uint32_t used, uint32_t fuel,
@@ -168,8 +194,9 @@ uint32_t arboricx_export_index(const uint8_t *file, size_t file_len,
                                uint32_t answer[ARBORICX_INDEX_ANSWER]);
 
 /*
- * The name of the export with an index: where it starts in the file, and how many bytes it has. It is valid UTF-8 with
- * no zero byte behind it. Start and length are 0 where one of 1 to 14 holds or there is no such index.
+ * The name of the export with an index: where it starts in the file, and how many bytes it has. It is valid UTF-8, may
+ * have zero bytes in it, and has none behind it. Start and length are 0 where one of 1 to 14 holds or there is no such
+ * index.
  */
 void arboricx_export_name(const uint8_t *file, size_t file_len, uint32_t index,
                           size_t answer[ARBORICX_NAME_ANSWER]);

@@ -1,0 +1,14 @@
+/* Cases whose answers are known: those of the paper and of the SHA-256 standard. Both sides have to give them. */
+#ifndef CASES_H
+#define CASES_H
+
+void check_paper_cases(void);
+void check_published_digests(void);
+
+/* Lengths above 32 bits: of files, names and tables. */
+void check_vast_lengths(void);
+
+/* The published digest of 1,090,519,040 zero bytes. */
+void check_gigabyte(void);
+
+#endif
