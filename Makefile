@@ -19,7 +19,7 @@ HEADERS = $(wildcard include/*.h tests/*.h bench/*.h)
 .PHONY: archive host test test-full header played faults bench
 archive:
 	@mkdir -p $(OUT)
-	@rt staticlib arboricx >$(OUT)/archive.log || { cat $(OUT)/archive.log; exit 1; }
+	@rt staticlib arboricx >$(OUT)/archive.log 2>&1 || { cat $(OUT)/archive.log; exit 1; }
 	@tail -n 1 $(OUT)/archive.log
 
 $(ARCHIVE): archive
