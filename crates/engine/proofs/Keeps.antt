@@ -22,13 +22,11 @@ use Rattle.table.proofs.SlotLaws.{room-most}
 use Rattle.table.proofs.SoundLaws.{slot-bounds, sound-next}
 use Rattle.table.proofs.FrameLaws.{frame-room-long, length-put-frame, frame-here, frame-other}
 use Rattle.table.proofs.FrameLaws.{length-drop, frame-dropped}
-use Rattle.engine.specs.declared.rules.Action.{Action}
-use Rattle.engine.specs.declared.rules.Action.the-variants.{Make, Give, Go, Push}
 use Rattle.engine.specs.declared.step.State.{State}
 use Rattle.engine.specs.declared.step.Turn.{Turn}
-use Rattle.engine.specs.Rules.{onArgument, onFork, onFunction, rule}
+use Rattle.engine.specs.Rules.{Action, Make, Give, Go, Push, onArgument, onFork, onFunction, rule}
 use Rattle.engine.specs.Step.{meetFrame, meet, Stepped, at, beside, carry, step}
-use Rattle.engine.specs.Ready.{Ready, Waits}
+use Rattle.engine.specs.Ready.{Ready, Waits, Asks, Carries}
 
 -- ---- a bound may grow
 
@@ -37,7 +35,7 @@ below-more n m h Leaf b = tt
 below-more n m h (Stem a) b = omega arith
 below-more n m h (Fork a c) b = (omega arith, omega arith)
 
-names-more : (n m : ℕ) → n ≤ m → (f : Frame) → Names n f → Names m f
+pub names-more : (n m : ℕ) → n ≤ m → (f : Frame) → Names n f → Names m f
 names-more n m h (Operand b x) k = (omega arith, omega arith)
 names-more n m h (Argument v) k = omega arith
 names-more n m h (Function w) k = omega arith
@@ -61,13 +59,6 @@ slots-below w s r =
 
 odd : _≡_ {A = ℕ} 0 1 → ⊥
 odd e = absurd (omega arith)
-
--- the slots that an action names are used, and the node that it makes is no leaf
-abbrev pub Asks : ℕ → Action → Type 0
-Asks used (Make n) = Below used n × (n ≡ Leaf → ⊥)
-Asks used (Give t) = t .0 < used
-Asks used (Go f x) = (f .0 < used) × (x .0 < used)
-Asks used (Push f x k) = (f .0 < used) × (x .0 < used) × Names used k
 
 module _ (w : List ℕ) (used : ℕ) (good : sound w used ≡ true) where
   -- the children of a used slot's node are used slots
@@ -101,6 +92,16 @@ unfolding rule
 rule-asks w s r =
     let good = r .slots .sound in
     function-asks w (s .used) good (s .x) (r .x) (nodeAt w (s .f .0)) (children w (s .used) good (s .f .0) (r .f))
+
+-- and may be carried out, as whatever is told to be the rule's
+pub rule-carries : (w j : List ℕ) (s : State) → Ready w s → Waits j (s .used) (s .waiting) →
+    (a : Action) → a ≡ rule w (s .f) (s .x) → Carries j s a
+rule-carries w j s r waits a e =
+    record {
+      most = omega (arith, r .slots .fits, room-most w);
+      waits = waits;
+      asks = subst (Asks (s .used)) (sym e) (rule-asks w s r);
+    }
 
 -- ---- the frames
 

@@ -1,5 +1,6 @@
 pub mod Cases
 pub mod Keeps
+pub mod RuleWays
 pub mod StepWays
 pub mod DriveWays
 pub mod CallWays

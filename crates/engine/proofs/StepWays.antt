@@ -1,4 +1,4 @@
--- The ways through a meeting and through a step.
+-- The ways through a meeting and through each action.
 use Prim.Native.Nat.{ℕ, zero, suc, _+_, _-_, _≤_, _<_}
 use mathlib.Core.Path.{_≡_, refl, ap, _∙_}
 use mathlib.Core.List.{List}
@@ -11,13 +11,11 @@ use Rattle.table.specs.declared.frames.Frame.{Frame}
 use Rattle.table.specs.declared.frames.Frame.the-variants.{Operand, Argument, Function}
 use Rattle.table.specs.Slots.{slot, room, putNode}
 use Rattle.table.specs.Frames.{frameRoom, frameAt, putFrame, dropFrame}
-use Rattle.engine.specs.declared.rules.Action.{Action}
-use Rattle.engine.specs.declared.rules.Action.the-variants.{Make, Give, Go, Push}
 use Rattle.engine.specs.declared.step.State.{State}
 use Rattle.engine.specs.declared.step.Status.the-variants.{NoSlot, NoPlace}
 use Rattle.engine.specs.declared.step.Turn.{Turn}
-use Rattle.engine.specs.Rules.{rule}
-use Rattle.engine.specs.Step.{going, done, stop, met, meetFrame, meet, at, beside, carry, step}
+use Rattle.engine.specs.Rules.{Action, Make, Give, Go, Push, rule}
+use Rattle.engine.specs.Step.{going, done, stop, met, meetFrame, meet, Stepped, at, beside, carry, step}
 
 frame-met : (j : List ℕ) (t : Slot) (used waiting : ℕ) (f : Frame) → (waiting ≡ 0 → ⊥) →
     f ≡ frameAt j (waiting - 1) → meetFrame j t used (waiting - 1) f ≡ meet j t used waiting
@@ -54,36 +52,42 @@ module _ (j : List ℕ) (t : Slot) (used waiting : ℕ) (r : Turn) where
     meet-function v e ej er = rw (ej, er) (frame-is e)
 
 -- each action, with room for it or without
-module _ (w j : List ℕ) (s : State) (a : Action) (chosen : a ≡ rule w (s .f) (s .x)) (r : Turn) where
-  carried : {b : Action} → a ≡ b → carry w j s b ≡ step w j s
-  unfolding step
-  carried e = rw (← chosen, e)
-
-  module _ (n : Node) (most : ℕ) (e : a ≡ Make n) (m : most ≡ room w) where
-    pub step-make : (w′ j′ : List ℕ) → s .used < most → w′ ≡ putNode w (s .used) n →
-        met j′ r ≡ meet j (slot (s .used)) (s .used + 1) (s .waiting) → at w′ j′ r ≡ step w j s
+module _ (w j : List ℕ) (s : State) (r : Turn) where
+  module _ (n : Node) (most : ℕ) (m : most ≡ room w) where
+    pub carry-make : (w′ j′ : List ℕ) → s .used < most → w′ ≡ putNode w (s .used) n →
+        met j′ r ≡ meet j (slot (s .used)) (s .used + 1) (s .waiting) → at w′ j′ r ≡ carry w j s (Make n)
     unfolding carry
-    step-make w′ j′ h ew ej = rw ew (ap (beside _) ej ∙ (simp (← m, lt-ltb _ _ h)) ∙ carried e)
+    carry-make w′ j′ h ew ej = rw ew (ap (beside _) ej ∙ (simp (← m, lt-ltb _ _ h)))
 
-    pub step-full : most ≤ s .used → r ≡ stop NoSlot s → at w j r ≡ step w j s
+    pub carry-full : most ≤ s .used → r ≡ stop NoSlot s → at w j r ≡ carry w j s (Make n)
     unfolding carry
-    step-full h er = rw er ((simp (← m, le-ltb _ _ h)) ∙ carried e)
+    carry-full h er = rw er (simp (← m, le-ltb _ _ h))
 
-  pub step-give : (t : Slot) (j′ : List ℕ) → a ≡ Give t → met j′ r ≡ meet j t (s .used) (s .waiting) →
-      at w j′ r ≡ step w j s
+  pub carry-give : (t : Slot) (j′ : List ℕ) → met j′ r ≡ meet j t (s .used) (s .waiting) →
+      at w j′ r ≡ carry w j s (Give t)
   unfolding carry
-  step-give t j′ e ej = ap (beside _) ej ∙ carried e
+  carry-give t j′ ej = ap (beside _) ej
 
-  pub step-go : (f x : Slot) → a ≡ Go f x → r ≡ going f x (s .used) (s .waiting) → at w j r ≡ step w j s
+  pub carry-go : (f x : Slot) → r ≡ going f x (s .used) (s .waiting) → at w j r ≡ carry w j s (Go f x)
   unfolding carry
-  step-go f x e er = rw er (carried e)
+  carry-go f x er = rw er
 
-  module _ (f x : Slot) (k : Frame) (most : ℕ) (e : a ≡ Push f x k) (m : most ≡ frameRoom j) where
-    pub step-push : (j′ : List ℕ) → s .waiting < most → j′ ≡ putFrame j (s .waiting) k →
-        r ≡ going f x (s .used) (s .waiting + 1) → at w j′ r ≡ step w j s
+  module _ (f x : Slot) (k : Frame) (most : ℕ) (m : most ≡ frameRoom j) where
+    pub carry-push : (j′ : List ℕ) → s .waiting < most → j′ ≡ putFrame j (s .waiting) k →
+        r ≡ going f x (s .used) (s .waiting + 1) → at w j′ r ≡ carry w j s (Push f x k)
     unfolding carry
-    step-push j′ h ej er = rw (ej, er) ((simp (← m, lt-ltb _ _ h)) ∙ carried e)
+    carry-push j′ h ej er = rw (ej, er) (simp (← m, lt-ltb _ _ h))
 
-    pub step-no-place : most ≤ s .waiting → r ≡ stop NoPlace s → at w j r ≡ step w j s
+    pub carry-no-place : most ≤ s .waiting → r ≡ stop NoPlace s → at w j r ≡ carry w j s (Push f x k)
     unfolding carry
-    step-no-place h er = rw er ((simp (← m, le-ltb _ _ h)) ∙ carried e)
+    carry-no-place h er = rw er (simp (← m, le-ltb _ _ h))
+
+-- equal actions are carried out alike
+pub carry-as : (w j : List ℕ) (s : State) {a b : Action} → a ≡ b → (r : Stepped) → r ≡ carry w j s a → r ≡ carry w j s b
+carry-as w j s e r h = h ∙ ap (carry w j s) e
+
+-- a step carries out what the rule asks for
+pub step-carry : (w j : List ℕ) (s : State) {a : Action} → a ≡ rule w (s .f) (s .x) → (r : Stepped) →
+    r ≡ carry w j s a → r ≡ step w j s
+unfolding step
+step-carry w j s e r h = carry-as w j s e r h

@@ -1,9 +1,14 @@
 -- What a step works on: sound used slots, an f and an x among them, and frames that name only those.
 use Prim.Native.Nat.{ℕ, _≤_, _<_}
+use mathlib.Core.Path.{_≡_}
 use mathlib.Core.List.{List}
+use Rattle.table.specs.declared.slots.Node.the-variants.{Leaf}
+use Rattle.table.specs.Limits.{maxSlots}
+use Rattle.table.specs.Slots.{Below}
 use Rattle.table.specs.Sound.{Sound}
 use Rattle.table.specs.Frames.{frameRoom, frameAt, Names}
 use Rattle.engine.specs.declared.step.State.{State}
+use Rattle.engine.specs.Rules.{Action, Make, Give, Go, Push}
 
 pub record Ready (w : List ℕ) (s : State) : Type 0 where
   pub slots : Sound w (s .used)
@@ -13,3 +18,16 @@ pub record Ready (w : List ℕ) (s : State) : Type 0 where
 pub record Waits (j : List ℕ) (used waiting : ℕ) : Type 0 where
   pub fits : waiting ≤ frameRoom j
   pub names : (k : ℕ) → k < waiting → Names used (frameAt j k)
+
+-- the slots that an action names are used, and the node that it makes is no leaf
+abbrev pub Asks : ℕ → Action → Type 0
+Asks used (Make n) = Below used n × (n ≡ Leaf → ⊥)
+Asks used (Give t) = t .0 < used
+Asks used (Go f x) = (f .0 < used) × (x .0 < used)
+Asks used (Push f x k) = (f .0 < used) × (x .0 < used) × Names used k
+
+-- what carrying out an action works on
+pub record Carries (j : List ℕ) (s : State) (a : Action) : Type 0 where
+  pub most : s .used ≤ maxSlots
+  pub waits : Waits j (s .used) (s .waiting)
+  pub asks : Asks (s .used) a

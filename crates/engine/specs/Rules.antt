@@ -4,10 +4,17 @@ use Prim.Native.Nat.{ℕ}
 use Rattle.table.specs.declared.slots.Slot.{Slot}
 use Rattle.table.specs.declared.slots.Node.{Node}
 use Rattle.table.specs.declared.slots.Node.the-variants.{Leaf, Stem, Fork}
+use Rattle.table.specs.declared.frames.Frame.{Frame}
 use Rattle.table.specs.declared.frames.Frame.the-variants.{Operand, Argument}
 use Rattle.table.specs.Slots.{nodeAt}
-use Rattle.engine.specs.declared.rules.Action.{Action}
-use Rattle.engine.specs.declared.rules.Action.the-variants.{Make, Give, Go, Push}
+
+-- what applying f to x asks for: a new node; a tree that is there already; an application; an application, while a
+-- frame waits
+pub data Action : Type 0 where
+  Make : Node → Action
+  Give : Slot → Action
+  Go : Slot → Slot → Action
+  Push : Slot → Slot → Frame → Action
 
 -- 5, 6 and 7, for what x is
 unfoldable pub onArgument : Slot → Slot → Slot → Node → Action

@@ -8,13 +8,11 @@ use Rattle.table.specs.declared.frames.Frame.{Frame}
 use Rattle.table.specs.declared.frames.Frame.the-variants.{Operand, Argument, Function}
 use Rattle.table.specs.Slots.{slot, room, putNode}
 use Rattle.table.specs.Frames.{frameRoom, frameAt, putFrame, dropFrame}
-use Rattle.engine.specs.declared.rules.Action.{Action}
-use Rattle.engine.specs.declared.rules.Action.the-variants.{Make, Give, Go, Push}
 use Rattle.engine.specs.declared.step.State.{State}
 use Rattle.engine.specs.declared.step.Status.{Status}
 use Rattle.engine.specs.declared.step.Status.the-variants.{Going, Done, NoSlot, NoPlace}
 use Rattle.engine.specs.declared.step.Turn.{Turn}
-use Rattle.engine.specs.Rules.{rule}
+use Rattle.engine.specs.Rules.{Action, Make, Give, Go, Push, rule}
 
 -- the step goes on, with slot f to be applied to slot x
 abbrev pub going : Slot → Slot → ℕ → ℕ → Turn

@@ -1,67 +1,79 @@
-// The seven rules on slots.
+// The seven rules on slots, each carried out at once.
 ghost use mathlib.Core.Path.{_≡_};
-ghost use Prim.Native.Nat.{_<_};
-ghost use Rattle.table.specs.Slots.{room};
-ghost use Rattle.engine.specs.Rules.{onArgument, onFork, rule};
-ghost use Rattle.engine.specs.Ready.{Ready};
+ghost use mathlib.Core.List.{List};
+ghost use Prim.Native.Nat.{ℕ};
+ghost use Rattle.engine.specs.Rules.{Make, Push, onArgument, onFork};
+ghost use Rattle.engine.specs.Step.{at, carry};
+ghost use Rattle.engine.specs.Ready.{Ready, Carries};
 use crate::step::State;
+use crate::step::Status;
+use crate::step::Turn;
+use crate::step::going;
+use crate::step::meet;
+use crate::step::stop;
 use table::frames::Frame;
+use table::frames::frame_room;
+use table::frames::put_frame;
 use table::slots::Node;
 use table::slots::Slot;
 use table::slots::node_at;
+use table::slots::put_node;
+use table::slots::room;
 
-// What applying f to x asks for.
-pub enum Action {
-    // A new node.
-    Make(Node),
-    // A tree that is there already.
-    Give(Slot),
-    // An application.
-    Go(Slot, Slot),
-    // An application, while a frame waits.
-    Push(Slot, Slot, Frame),
+// Rules 1 and 2: a new node meets the newest frame.
+pub(crate) fn make(words: &mut [u32], jobs: &mut [u32], s: State, node: Node) -> Turn
+    requires { ⌜ Carries (now jobs) s (Make node) ⌝ }
+    ensures { λ r. ⌜ at (now (words .exit)) (now (jobs .exit)) r
+        ≡ carry (now (words .entry)) (now (jobs .entry)) s (Make node) ⌝ }
+{
+    let used = s.used;
+    if used < room(words) {
+        put_node(words, Slot(used as usize), node);
+        meet(jobs, Slot(used as usize), used + 1, s.waiting)
+    } else {
+        stop(Status::NoSlot, s)
+    }
+}
+
+// Rules 4 and 7: an application, while a frame waits. No word of the word table matters.
+fn push(jobs: &mut [u32], s: State, f: Slot, x: Slot, frame: Frame) -> Turn
+    requires { ⌜ Carries (now jobs) s (Push f x frame) ⌝ }
+    ensures { λ r. ⌜ ((w : List ℕ) → at w (now (jobs .exit)) r ≡ carry w (now (jobs .entry)) s (Push f x frame)) ⌝ }
+{
+    let waiting = s.waiting;
+    if waiting < frame_room(jobs) {
+        put_frame(jobs, waiting, frame);
+        going(f, x, s.used, waiting + 1)
+    } else {
+        stop(Status::NoPlace, s)
+    }
 }
 
 // Rules 5 to 7: f is a fork of a fork of a and b, and of c.
-fn on_argument(a: Slot, b: Slot, c: Slot, x: Node) -> Action
-    ensures { λ r. ⌜ r ≡ onArgument a b c x ⌝ }
+fn on_argument(jobs: &mut [u32], s: State, a: Slot, b: Slot, c: Slot, x: Node) -> Turn
+    requires { ⌜ Carries (now jobs) s (onArgument a b c x) ⌝ }
+    ensures { λ r. ⌜ ((w : List ℕ) → at w (now (jobs .exit)) r ≡ carry w (now (jobs .entry)) s (onArgument a b c x)) ⌝ }
 {
     match x {
-        Node::Leaf => Action::Give(a),
-        Node::Stem(u) => Action::Go(b, u),
-        Node::Fork(u, v) => Action::Push(c, u, Frame::Argument(v)),
+        Node::Leaf => meet(jobs, a, s.used, s.waiting),
+        Node::Stem(u) => going(b, u, s.used, s.waiting),
+        Node::Fork(u, v) => push(jobs, s, c, u, Frame::Argument(v)),
     }
 }
 
 // Rules 3 to 7: f is a fork of g and c.
-fn on_fork(words: &[u32], g: Node, c: Slot, x: Slot) -> Action
-    requires { ⌜ x .0 < room (now words) ⌝ }
-    ensures { λ r. ⌜ r ≡ onFork (now (words .entry)) g c x ⌝ }
+pub(crate) fn on_fork(words: &[u32], jobs: &mut [u32], s: State, g: Node, c: Slot) -> Turn
+    requires { ⌜ Ready (now words) s × Carries (now jobs) s (onFork (now words) g c (s .x)) ⌝ }
+    ensures { λ r. ⌜ at (now (words .entry)) (now (jobs .exit)) r
+        ≡ carry (now (words .entry)) (now (jobs .entry)) s (onFork (now (words .entry)) g c (s .x)) ⌝ }
 {
+    let x = s.x;
     match g {
-        Node::Leaf => Action::Give(c),
-        Node::Stem(a) => Action::Push(a, x, Frame::Operand(c, x)),
+        Node::Leaf => meet(jobs, c, s.used, s.waiting),
+        Node::Stem(a) => push(jobs, s, a, x, Frame::Operand(c, x)),
         Node::Fork(a, b) => {
             let argument = node_at(words, x);
-            on_argument(a, b, c, argument)
-        }
-    }
-}
-
-// The rule that applies f to x.
-pub(crate) fn rule(words: &[u32], s: State) -> Action
-    requires { ⌜ Ready (now words) s ⌝ }
-    ensures { λ r. ⌜ r ≡ rule (now (words .entry)) (s .f) (s .x) ⌝ }
-{
-    let f = s.f;
-    let x = s.x;
-    let function = node_at(words, f);
-    match function {
-        Node::Leaf => Action::Make(Node::Stem(x)),
-        Node::Stem(a) => Action::Make(Node::Fork(a, x)),
-        Node::Fork(g, c) => {
-            let first = node_at(words, g);
-            on_fork(words, first, c, x)
+            on_argument(jobs, s, a, b, c, argument)
         }
     }
 }

@@ -1,17 +1,18 @@
 // One step of a run: a rule, and the meeting of its tree with the newest frame.
 ghost use mathlib.Core.Path.{_≡_};
+ghost use Prim.Native.Nat.{_≤_, _<_};
+ghost use Rattle.table.specs.Limits.{maxSlots};
 ghost use Rattle.engine.specs.Step.{going, done, stop, met, meet, at, step};
 ghost use Rattle.engine.specs.Ready.{Ready, Waits};
-use crate::rules::Action;
-use crate::rules::rule;
+use crate::rules::make;
+use crate::rules::on_fork;
 use table::frames::Frame;
 use table::frames::drop_frame;
 use table::frames::frame_at;
-use table::frames::frame_room;
 use table::frames::put_frame;
+use table::slots::Node;
 use table::slots::Slot;
-use table::slots::put_node;
-use table::slots::room;
+use table::slots::node_at;
 
 // Slot f is to be applied to slot x; so many slots are used, and so many frames wait.
 pub struct State {
@@ -36,7 +37,7 @@ pub struct Turn {
 }
 
 // The step goes on with an application.
-fn going(f: Slot, x: Slot, used: u32, waiting: u32) -> Turn
+pub(crate) fn going(f: Slot, x: Slot, used: u32, waiting: u32) -> Turn
     ensures { λ r. ⌜ r ≡ going f x used waiting ⌝ }
 {
     Turn {
@@ -66,15 +67,15 @@ fn done(t: Slot, used: u32) -> Turn
 }
 
 // There is no slot or no place for what the rule asks for.
-fn stop(status: Status, s: State) -> Turn
+pub(crate) fn stop(status: Status, s: State) -> Turn
     ensures { λ r. ⌜ r ≡ stop status s ⌝ }
 {
     Turn { status, state: s }
 }
 
 // The tree in slot t meets the newest frame.
-fn meet(jobs: &mut [u32], t: Slot, used: u32, waiting: u32) -> Turn
-    requires { ⌜ Waits (now jobs) used waiting ⌝ }
+pub(crate) fn meet(jobs: &mut [u32], t: Slot, used: u32, waiting: u32) -> Turn
+    requires { ⌜ Waits (now jobs) used waiting × (t .0 < used) × (used ≤ maxSlots) ⌝ }
     ensures { λ r. ⌜ met (now (jobs .exit)) r ≡ meet (now (jobs .entry)) t used waiting ⌝ }
 {
     if waiting == 0 {
@@ -98,32 +99,20 @@ fn meet(jobs: &mut [u32], t: Slot, used: u32, waiting: u32) -> Turn
     }
 }
 
-// The body of the run's loop.
+// The body of the run's loop: rules 1 and 2, or the rest by what the fork's first child is.
 pub(crate) fn step(words: &mut [u32], jobs: &mut [u32], s: State) -> Turn
     requires { ⌜ Ready (now words) s × Waits (now jobs) (s .used) (s .waiting) ⌝ }
     ensures { λ r. ⌜ at (now (words .exit)) (now (jobs .exit)) r ≡ step (now (words .entry)) (now (jobs .entry)) s ⌝ }
 {
-    let used = s.used;
-    let waiting = s.waiting;
-    let action = rule(words, s);
-    match action {
-        Action::Make(node) => {
-            if used < room(words) {
-                put_node(words, Slot(used), node);
-                meet(jobs, Slot(used), used + 1, waiting)
-            } else {
-                stop(Status::NoSlot, s)
-            }
-        }
-        Action::Give(t) => meet(jobs, t, used, waiting),
-        Action::Go(f, x) => going(f, x, used, waiting),
-        Action::Push(f, x, frame) => {
-            if waiting < frame_room(jobs) {
-                put_frame(jobs, waiting, frame);
-                going(f, x, used, waiting + 1)
-            } else {
-                stop(Status::NoPlace, s)
-            }
+    let f = s.f;
+    let x = s.x;
+    let function = node_at(words, f);
+    match function {
+        Node::Leaf => make(words, jobs, s, Node::Stem(x)),
+        Node::Stem(a) => make(words, jobs, s, Node::Fork(a, x)),
+        Node::Fork(g, c) => {
+            let first = node_at(words, g);
+            on_fork(words, jobs, s, first, c)
         }
     }
 }

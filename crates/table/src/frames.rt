@@ -1,7 +1,8 @@
 // Frames of a lent frame table, the paper's job table: continuation frames of three words, oldest first.
 ghost use mathlib.Core.Path.{_≡_};
 ghost use Prim.Native.Nat.{_<_};
-ghost use Rattle.table.specs.Frames.{frameRoom, frameAt, putRecord, putFrame, dropFrame, cleared};
+ghost use Rattle.table.specs.Frames.{frameRoom, frameAt, putRecord, putFrame, dropFrame, cleared, Names};
+ghost use Rattle.table.specs.Limits.{maxSlots};
 use crate::limits::Limit;
 use crate::slots::Slot;
 
@@ -36,12 +37,12 @@ pub fn frame_at(jobs: &[u32], k: u32) -> Frame
     let tag = jobs[at];
     let first = jobs[at + 1];
     if tag == 1 {
-        return Frame::Operand(Slot(first), Slot(jobs[at + 2]));
+        return Frame::Operand(Slot(first as usize), Slot(jobs[at + 2] as usize));
     }
     if tag == 2 {
-        return Frame::Argument(Slot(first));
+        return Frame::Argument(Slot(first as usize));
     }
-    Frame::Function(Slot(first))
+    Frame::Function(Slot(first as usize))
 }
 
 // Writes the three words of place k.
@@ -58,13 +59,13 @@ fn put_record(jobs: &mut [u32], k: u32, tag: u32, first: u32, second: u32)
 
 // Writes a frame at place k.
 pub fn put_frame(jobs: &mut [u32], k: u32, f: Frame)
-    requires { ⌜ k < frameRoom (now jobs) ⌝ }
+    requires { ⌜ (k < frameRoom (now jobs)) × Names maxSlots f ⌝ }
     ensures { λ _. ⌜ now (jobs .exit) ≡ putFrame (now (jobs .entry)) k f ⌝ }
 {
     match f {
-        Frame::Operand(b, x) => put_record(jobs, k, 1, b.0, x.0),
-        Frame::Argument(v) => put_record(jobs, k, 2, v.0, 0),
-        Frame::Function(w) => put_record(jobs, k, 3, w.0, 0),
+        Frame::Operand(b, x) => put_record(jobs, k, 1, b.0 as u32, x.0 as u32),
+        Frame::Argument(v) => put_record(jobs, k, 2, v.0 as u32, 0),
+        Frame::Function(w) => put_record(jobs, k, 3, w.0 as u32, 0),
     }
 }
 

@@ -8,7 +8,7 @@ ghost use lib.IntN.{pos};
 use crate::limits::Limit;
 
 // A slot's number.
-pub struct Slot(pub u32);
+pub struct Slot(pub usize);
 
 // Whether a number names a slot.
 pub enum Place {
@@ -39,7 +39,7 @@ impl Slot {
         }
         let n = i as u32;
         if n < used {
-            Place::At(Slot(n))
+            Place::At(Slot(n as usize))
         } else {
             Place::Nowhere
         }
@@ -66,16 +66,16 @@ pub fn node_at(words: &[u32], i: Slot) -> Node
     requires { ⌜ i .0 < room (now words) ⌝ }
     ensures { λ r. ⌜ r ≡ nodeAt (now (words .entry)) (i .0) ⌝ }
 {
-    let at = Slot::WORDS * (i.0 as usize);
+    let at = Slot::WORDS * i.0;
     let first = words[at];
     if first == 0 {
         return Node::Leaf;
     }
     let second = words[at + 1];
     if second == 0 {
-        return Node::Stem(Slot(first - 1));
+        return Node::Stem(Slot(first as usize - 1));
     }
-    Node::Fork(Slot(first - 1), Slot(second - 1))
+    Node::Fork(Slot(first as usize - 1), Slot(second as usize - 1))
 }
 
 // Writes the two words of slot i.
@@ -83,7 +83,7 @@ fn put_words(words: &mut [u32], i: Slot, first: u32, second: u32)
     requires { ⌜ i .0 < room (now words) ⌝ }
     ensures { λ _. ⌜ now (words .exit) ≡ putWords (now (words .entry)) (i .0) first second ⌝ }
 {
-    let at = Slot::WORDS * (i.0 as usize);
+    let at = Slot::WORDS * i.0;
     words[at] = first;
     words[at + 1] = second;
 }
@@ -95,8 +95,8 @@ pub fn put_node(words: &mut [u32], i: Slot, n: Node)
 {
     match n {
         Node::Leaf => put_words(words, i, 0, 0),
-        Node::Stem(a) => put_words(words, i, a.0 + 1, 0),
-        Node::Fork(a, b) => put_words(words, i, a.0 + 1, b.0 + 1),
+        Node::Stem(a) => put_words(words, i, (a.0 + 1) as u32, 0),
+        Node::Fork(a, b) => put_words(words, i, (a.0 + 1) as u32, (b.0 + 1) as u32),
     }
 }
 
@@ -121,7 +121,7 @@ pub fn sound(words: &[u32], used: u32) -> bool
     requires { ⌜ used ≤ room (now words) ⌝ }
     ensures { λ r. ⌜ r ≡ sound (now (words .entry)) used ⌝ }
 {
-    let mut i = Slot::ZERO.0;
+    let mut i = Slot::ZERO.0 as u32;
     while i < used {
         let at = Slot::WORDS * (i as usize);
         let good = slot_sound(i, words[at], words[at + 1]);

@@ -1,69 +1,56 @@
--- Each action, with room for it or without; the node that a rule makes has used children.
+-- The three nodes that f may be; a fork's first child is a used slot, and so in the room.
 use mathlib.Core.Path.{sym, _∙_, subst}
 use native.Mathlib.Omega.{arith}
+use Rattle.table.specs.Slots.{Below}
+use Rattle.engine.proofs.Keeps.{children, rule-carries}
+use Rattle.engine.proofs.RuleWays.{rule-leaf, rule-stem, rule-fork}
+use Rattle.engine.proofs.StepWays.{step-carry}
 use borrow.Author.Needs.{needs}
-use Rattle.engine.proofs.Keeps.{Asks, rule-asks, waits-more}
-use Rattle.engine.proofs.StepWays.{step-make, step-full, step-give, step-go, step-push, step-no-place}
 use Rattle.engine.proofs.step.step.Statement.{statement}
 use Rattle.engine.proofs.step.step.Tie as tie
 
-rule-requires : tie.Need-rule-requires
-rule-requires c κs = search needs
+node-at-requires : tie.Need-node-at-requires
+node-at-requires c κs = search needs
 
-enum-known-action : tie.Need-enum-known-action
-enum-known-action c = search needs
+enum-told : tie.Need-enum-told
+enum-told c = search needs
 
-room-requires : tie.Need-room-requires
-room-requires c κs = search needs
+make-requires : tie.Need-make-requires
+make-requires c κs =
+    let told = c .before .before in
+    let pre = told .before .before .before .before .before .before .before .before .pre in
+    let asked = rule-leaf _ _ _ _ (told .before .before .node-at .ensures) (told .enum-told .given .1) in
+    rule-carries _ _ _ (pre .0) (pre .1) _ asked
 
-put-node-requires : tie.Need-put-node-requires
-put-node-requires c κs =
+enum-known-function : tie.Need-enum-known-function
+enum-known-function c = search needs
+
+make-requires-2 : tie.Need-make-requires-2
+make-requires-2 c κs =
+    let told = c .before .before .before in
+    let pre = told .before .before .before .before .before .before .before .before .pre in
+    let asked = rule-stem _ _ _ _ (told .before .before .node-at .ensures) _ (told .function .given .1) in
+    rule-carries _ _ _ (pre .0) (pre .1) _ asked
+
+enum-known-function-2 : tie.Need-enum-known-function-2
+enum-known-function-2 c = search needs
+
+node-at-requires-2 : tie.Need-node-at-requires-2
+node-at-requires-2 c κs =
+    let start = c .before .before .before .before .before .before .before .before .before .before in
+    let ready = start .pre .0 in
+    let s = start .args .s in
+    let told = sym (c .before .before .before .before .node-at .ensures) ∙ c .before .before .function2 .given .1 in
+    let below = children _ _ (ready .slots .sound) (s .f .0) (ready .f) in
+    omega (arith, ready .slots .fits, subst (Below (s .used)) told below .0)
+
+on-fork-requires : tie.Need-on-fork-requires
+on-fork-requires c κs =
     let told = c .before .before .before .before .before in
-    let start = told .before .before .before .before .before .before in
-    let asks = rule-asks _ _ (start .pre .0) in
-    let e = sym (told .before .before .rule .ensures) ∙ told .action .given .1 in
-    (omega (arith, c .before .before .room .ensures, c .before .if1 .taken), subst (Asks _) e asks .0)
-
-add-meet : tie.Need-add-meet
-add-meet c = search needs
-
-meet-requires : tie.Need-meet-requires
-meet-requires c κs =
-    let told = c .before .before .before .before .before .before .before .before .before in
-    waits-more _ _ _ _ (omega arith) (told .before .before .before .before .before .before .pre .1)
-
-stop-requires : tie.Need-stop-requires
-stop-requires c κs = search needs
-
-enum-known-action-2 : tie.Need-enum-known-action-2
-enum-known-action-2 c = search needs
-
-meet-requires-2 : tie.Need-meet-requires-2
-meet-requires-2 c κs = search needs
-
-enum-known-action-3 : tie.Need-enum-known-action-3
-enum-known-action-3 c = search needs
-
-going-requires : tie.Need-going-requires
-going-requires c κs = search needs
-
-enum-known-action-4 : tie.Need-enum-known-action-4
-enum-known-action-4 c = search needs
-
-frame-room-requires : tie.Need-frame-room-requires
-frame-room-requires c κs = search needs
-
-put-frame-requires : tie.Need-put-frame-requires
-put-frame-requires c κs = search needs
-
-add-going : tie.Need-add-going
-add-going c = search needs
-
-going-requires-2 : tie.Need-going-requires-2
-going-requires-2 c κs = search needs
-
-stop-requires-2 : tie.Need-stop-requires-2
-stop-requires-2 c κs = search needs
+    let pre = told .before .before .before .before .before .before .before .before .pre in
+    let f = told .before .before .node-at .ensures in
+    let asked = rule-fork _ _ _ _ f _ _ (told .function2 .given .1) _ (c .before .before .node-at2 .ensures) in
+    (pre .0, rule-carries _ _ _ (pre .0) (pre .1) _ asked)
 
 same-length : tie.Need-same-length
 same-length c = search needs
@@ -73,101 +60,54 @@ same-length-2 c = search needs
 
 returns : tie.Need-returns
 returns c =
-    let put = c .before .before .before .before .before .before in
-    let test = put .before .before in
-    let told = test .before .before .before .before in
-    step-make _ _ _ _ (told .before .before .rule .ensures) _ _ _ (told .action .given .1)
-    (test .before .room .ensures) _ _ (test .if1 .taken) (put .put-node .ensures) (c .before .before .meet .ensures)
+    let told = c .before .before .before .before .before .before .before in
+    step-carry _ _ _ (rule-leaf _ _ _ _ (told .before .before .node-at .ensures) (told .enum-told .given .1)) _
+    (c .before .before .before .before .make .ensures)
 
 same-length-3 : tie.Need-same-length-3
 same-length-3 c = search needs
 
-returns-2 : tie.Need-returns-2
-returns-2 c =
-    let told = c .before .before .before .before .before in
-    step-full _ _ _ _ (told .before .before .rule .ensures) _ _ _ (told .action .given .1)
-    (c .before .before .room .ensures) (c .before .if1 .left) (c .stop .ensures)
-
 same-length-4 : tie.Need-same-length-4
 same-length-4 c = search needs
+
+returns-2 : tie.Need-returns-2
+returns-2 c =
+    let told = c .before .before .before .before .before .before .before .before in
+    step-carry _ _ _ (rule-stem _ _ _ _ (told .before .before .node-at .ensures) _ (told .function .given .1)) _
+    (c .before .before .before .before .make2 .ensures)
 
 same-length-5 : tie.Need-same-length-5
 same-length-5 c = search needs
 
-returns-3 : tie.Need-returns-3
-returns-3 c =
-    let told = c .before .before .before .before .before in
-    step-give _ _ _ _ (told .before .before .rule .ensures) _ _ _ (told .action2 .given .1)
-    (c .before .before .meet2 .ensures)
-
 same-length-6 : tie.Need-same-length-6
 same-length-6 c = search needs
 
-returns-4 : tie.Need-returns-4
-returns-4 c =
-    let told = c .before .before in
-    step-go _ _ _ _ (told .before .before .rule .ensures) _ _ _ (told .action3 .given .1) (c .going .ensures)
-
-same-length-7 : tie.Need-same-length-7
-same-length-7 c = search needs
-
-same-length-8 : tie.Need-same-length-8
-same-length-8 c = search needs
-
-returns-5 : tie.Need-returns-5
-returns-5 c =
-    let put = c .before .before .before in
-    let test = put .before .before in
-    let told = test .before .before .before .before in
-    step-push _ _ _ _ (told .before .before .rule .ensures) _ _ _ _ _ (told .action4 .given .1)
-    (test .before .frame-room .ensures) _ (test .if2 .taken) (put .put-frame .ensures) (c .going2 .ensures)
-
-same-length-9 : tie.Need-same-length-9
-same-length-9 c = search needs
-
-same-length-10 : tie.Need-same-length-10
-same-length-10 c = search needs
-
-returns-6 : tie.Need-returns-6
-returns-6 c =
-    let told = c .before .before .before .before .before in
-    step-no-place _ _ _ _ (told .before .before .rule .ensures) _ _ _ _ _ (told .action4 .given .1)
-    (c .before .before .frame-room .ensures) (c .before .if2 .left) (c .stop2 .ensures)
+returns-3 : tie.Need-returns-3
+returns-3 c =
+    let read = c .before .before .before .before .before in
+    let told = read .before .before .before in
+    let f = told .before .before .node-at .ensures in
+    let asked = rule-fork _ _ _ _ f _ _ (told .function2 .given .1) _ (read .node-at2 .ensures) in
+    step-carry _ _ _ asked _ (c .before .before .on-fork .ensures)
 
 pub step-spec : {M : Type 1} → statement M
 step-spec =
     tie.close
     (tie.spec
-    rule-requires
-    enum-known-action
-    room-requires
-    put-node-requires
-    add-meet
-    meet-requires
-    stop-requires
-    enum-known-action-2
-    meet-requires-2
-    enum-known-action-3
-    going-requires
-    enum-known-action-4
-    frame-room-requires
-    put-frame-requires
-    add-going
-    going-requires-2
-    stop-requires-2
+    node-at-requires
+    enum-told
+    make-requires
+    enum-known-function
+    make-requires-2
+    enum-known-function-2
+    node-at-requires-2
+    on-fork-requires
     same-length
     same-length-2
     returns
     same-length-3
-    returns-2
     same-length-4
+    returns-2
     same-length-5
-    returns-3
     same-length-6
-    returns-4
-    same-length-7
-    same-length-8
-    returns-5
-    same-length-9
-    same-length-10
-    returns-6)
+    returns-3)

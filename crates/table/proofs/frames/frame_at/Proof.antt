@@ -1,8 +1,9 @@
 -- The tag tells which frame the three words are.
+use Prim.Native.Nat.{_+_, _*_}
 use native.Mathlib.Omega.{arith}
 use borrow.Author.Tests.{eq-eqb, ne-eqb}
 use borrow.Author.Needs.{needs}
-use Rattle.table.specs.Frames.{frameRoom, recordAt, frameAt}
+use Rattle.table.specs.Frames.{frameWidth, frameRoom, recordAt, frameAt}
 use Rattle.table.proofs.frames.frame_at.Statement.{statement}
 use Rattle.table.proofs.frames.frame_at.Tie as tie
 
@@ -26,23 +27,43 @@ shared-slice-read-first : tie.Need-shared-slice-read-first
 unfolding frameRoom
 shared-slice-read-first c = omega arith
 
-add-t13 : tie.Need-add-t13
-add-t13 c = search needs
+cast-t12 : tie.Need-cast-t12
+cast-t12 c =
+    let place = frameWidth * c .before .before .before .args .k in
+    omega (arith, c .before .shared-slice-known2 .given (place + 1))
 
-mul-t14 : tie.Need-mul-t14
-mul-t14 c = search needs
+add-t14 : tie.Need-add-t14
+add-t14 c = search needs
 
-shared-slice-read-t16 : tie.Need-shared-slice-read-t16
+mul-t15 : tie.Need-mul-t15
+mul-t15 c = search needs
+
+shared-slice-read-t17 : tie.Need-shared-slice-read-t17
 unfolding frameRoom
-shared-slice-read-t16 c = omega arith
+shared-slice-read-t17 c = omega arith
+
+cast-t18 : tie.Need-cast-t18
+cast-t18 c =
+    let place = frameWidth * c .before .before .before .before .args .k in
+    omega (arith, c .shared-slice-known3 .given (place + 2))
 
 returns : tie.Need-returns
 unfolding frameAt recordAt
 returns c = simp (eq-eqb _ _ (c .before .if1 .taken))
 
+cast-t20 : tie.Need-cast-t20
+cast-t20 c =
+    let place = frameWidth * c .before .before .before .before .args .k in
+    omega (arith, c .before .before .shared-slice-known2 .given (place + 1))
+
 returns-2 : tie.Need-returns-2
 unfolding frameAt recordAt
 returns-2 c = simp (ne-eqb _ _ (c .before .if1 .left), eq-eqb _ _ (c .if2 .taken))
+
+cast-t6 : tie.Need-cast-t6
+cast-t6 c =
+    let place = frameWidth * c .before .before .before .before .args .k in
+    omega (arith, c .before .before .shared-slice-known2 .given (place + 1))
 
 returns-3 : tie.Need-returns-3
 unfolding frameAt recordAt
@@ -58,9 +79,13 @@ frame-at-spec =
     add-first
     mul-first
     shared-slice-read-first
-    add-t13
-    mul-t14
-    shared-slice-read-t16
+    cast-t12
+    add-t14
+    mul-t15
+    shared-slice-read-t17
+    cast-t18
     returns
+    cast-t20
     returns-2
+    cast-t6
     returns-3)

@@ -1,19 +1,19 @@
 -- Which of the two words are 0 tells the node.
+use Prim.Native.Nat.{_+_, _*_}
 use native.Mathlib.Omega.{arith}
 use borrow.Author.Needs.{needs}
-use Rattle.table.specs.Slots.{room, firstAt, secondAt}
+use Rattle.table.specs.Slots.{width, room, firstAt, secondAt}
 use Rattle.table.proofs.SlotWays.{node-leaf, node-stem, node-fork}
 use Rattle.table.proofs.slots.node_at.Statement.{statement}
 use Rattle.table.proofs.slots.node_at.Tie as tie
 
-cast-at : tie.Need-cast-at
-cast-at c = search needs
-
 mul-at : tie.Need-mul-at
-mul-at c = search needs
+unfolding room
+mul-at c = omega arith
 
 mul-first : tie.Need-mul-first
-mul-first c = search needs
+unfolding room
+mul-first c = omega arith
 
 shared-slice-read-first : tie.Need-shared-slice-read-first
 unfolding room
@@ -24,27 +24,44 @@ unfolding firstAt
 returns c = node-leaf _ _ (c .if1 .taken)
 
 add-second : tie.Need-add-second
-add-second c = search needs
+unfolding room
+add-second c = omega arith
 
 mul-second : tie.Need-mul-second
-mul-second c = search needs
+unfolding room
+mul-second c = omega arith
 
 shared-slice-read-second : tie.Need-shared-slice-read-second
 unfolding room
 shared-slice-read-second c = omega arith
 
-sub-t12 : tie.Need-sub-t12
-sub-t12 c = search needs
+cast-t12 : tie.Need-cast-t12
+cast-t12 c =
+    let at = width * c .before .before .before .before .before .args .i .0 in
+    omega (arith, c .before .before .before .shared-slice-known .given at)
+
+sub-t13 : tie.Need-sub-t13
+sub-t13 c = search needs
 
 returns-2 : tie.Need-returns-2
 unfolding firstAt secondAt
 returns-2 c = node-stem _ _ (c .before .before .if1 .left) (c .if2 .taken)
 
-sub-t8 : tie.Need-sub-t8
-sub-t8 c = search needs
+cast-t6 : tie.Need-cast-t6
+cast-t6 c =
+    let at = width * c .before .before .before .before .before .args .i .0 in
+    omega (arith, c .before .before .before .shared-slice-known .given at)
 
-sub-t15 : tie.Need-sub-t15
-sub-t15 c = search needs
+sub-t10 : tie.Need-sub-t10
+sub-t10 c = search needs
+
+cast-t16 : tie.Need-cast-t16
+cast-t16 c =
+    let at = width * c .before .before .before .before .before .args .i .0 in
+    omega (arith, c .before .shared-slice-known2 .given (at + 1))
+
+sub-t17 : tie.Need-sub-t17
+sub-t17 c = search needs
 
 returns-3 : tie.Need-returns-3
 unfolding firstAt secondAt
@@ -54,7 +71,6 @@ pub node-at-spec : {M : Type 1} → statement M
 node-at-spec =
     tie.close
     (tie.spec
-    cast-at
     mul-at
     mul-first
     shared-slice-read-first
@@ -62,8 +78,11 @@ node-at-spec =
     add-second
     mul-second
     shared-slice-read-second
-    sub-t12
+    cast-t12
+    sub-t13
     returns-2
-    sub-t8
-    sub-t15
+    cast-t6
+    sub-t10
+    cast-t16
+    sub-t17
     returns-3)

@@ -22,6 +22,13 @@ add-put-words c =
     let told = c .before .before .before .n .given .1 in
     omega (arith, subst (Below (start .args .i .0)) told (start .pre .1))
 
+cast-put-words : tie.Need-cast-put-words
+unfolding room
+cast-put-words c =
+    let start = c .before .before .before .before .before .before in
+    let told = c .before .before .before .n .given .1 in
+    omega (arith, subst (Below (start .args .i .0)) told (start .pre .1))
+
 put-words-requires-2 : tie.Need-put-words-requires-2
 put-words-requires-2 c κs = search needs
 
@@ -35,9 +42,23 @@ add-put-words-2 c =
     let told = c .before .before .before .n2 .given .1 in
     omega (arith, subst (Below (start .args .i .0)) told (start .pre .1) .0)
 
+cast-put-words-2 : tie.Need-cast-put-words-2
+unfolding room
+cast-put-words-2 c =
+    let start = c .before .before .before .before .before .before in
+    let told = c .before .before .before .n2 .given .1 in
+    omega (arith, subst (Below (start .args .i .0)) told (start .pre .1) .0)
+
 add-put-words-3 : tie.Need-add-put-words-3
 unfolding room
 add-put-words-3 c =
+    let start = c .before .before .before .before .before .before .before in
+    let told = c .before .before .before .before .n2 .given .1 in
+    omega (arith, subst (Below (start .args .i .0)) told (start .pre .1) .1)
+
+cast-put-words-3 : tie.Need-cast-put-words-3
+unfolding room
+cast-put-words-3 c =
     let start = c .before .before .before .before .before .before .before in
     let told = c .before .before .before .before .n2 .given .1 in
     omega (arith, subst (Below (start .args .i .0)) told (start .pre .1) .1)
@@ -78,10 +99,13 @@ put-node-spec =
     put-words-requires
     enum-known-n
     add-put-words
+    cast-put-words
     put-words-requires-2
     enum-known-n-2
     add-put-words-2
+    cast-put-words-2
     add-put-words-3
+    cast-put-words-3
     put-words-requires-3
     same-length
     returns

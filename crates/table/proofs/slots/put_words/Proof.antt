@@ -6,24 +6,25 @@ use Rattle.table.specs.Slots.{room, putWords}
 use Rattle.table.proofs.slots.put_words.Statement.{statement}
 use Rattle.table.proofs.slots.put_words.Tie as tie
 
-cast-at : tie.Need-cast-at
-cast-at c = search needs
-
 mul-at : tie.Need-mul-at
-mul-at c = search needs
+unfolding room
+mul-at c = omega arith
 
 mul-words : tie.Need-mul-words
-mul-words c = search needs
+unfolding room
+mul-words c = omega arith
 
 slice-write-words : tie.Need-slice-write-words
 unfolding room
 slice-write-words c = omega arith
 
 add-words : tie.Need-add-words
-add-words c = search needs
+unfolding room
+add-words c = omega arith
 
 mul-words-2 : tie.Need-mul-words-2
-mul-words-2 c = search needs
+unfolding room
+mul-words-2 c = omega arith
 
 slice-write-words-2 : tie.Need-slice-write-words-2
 unfolding room
@@ -40,7 +41,6 @@ pub put-words-spec : {M : Type 1} → statement M
 put-words-spec =
     tie.close
     (tie.spec
-    cast-at
     mul-at
     mul-words
     slice-write-words

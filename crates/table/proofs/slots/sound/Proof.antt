@@ -18,6 +18,9 @@ Inv-loop words used i₀ i = (i ≤ used) × (sound words i ≡ true)
 abbrev μ-loop : tie.MeasureT-loop
 μ-loop words used i₀ i = used - i
 
+cast-i : tie.Need-cast-i Inv-loop μ-loop
+cast-i c = search needs
+
 loop-holds : tie.Need-loop-holds Inv-loop μ-loop
 loop-holds c = (omega arith, sound-none _)
 
@@ -74,6 +77,7 @@ sound-spec =
     (tie.spec
     Inv-loop
     μ-loop
+    cast-i
     loop-holds
     cast-at
     mul-at
