@@ -35,7 +35,7 @@ pub(crate) fn make(words: &mut [u32], jobs: &mut [u32], s: State, node: Node) ->
     }
 }
 
-// Rules 4 and 7: an application, while a frame waits. No word of the word table matters.
+// Rules 4 and 7: an application, while a frame waits. Every word table stays as it is.
 fn push(jobs: &mut [u32], s: State, f: Slot, x: Slot, frame: Frame) -> Turn
     requires { ⌜ Carries (now jobs) s (Push f x frame) ⌝ }
     ensures { λ r. ⌜ ((w : List ℕ) → at w (now (jobs .exit)) r ≡ carry w (now (jobs .entry)) s (Push f x frame)) ⌝ }

@@ -22,13 +22,11 @@ use Rattle.table.proofs.SlotLaws.{room-put, same-node, same-put}
 use Rattle.table.proofs.SoundLaws.{slot-bounds}
 use Rattle.table.proofs.FrameLaws.{frame-room-long, length-put-frame, length-drop, length-cleared}
 use Rattle.table.proofs.FrameLaws.{frame-here, frame-other, frame-dropped}
-use Rattle.engine.specs.declared.rules.Action.{Action}
-use Rattle.engine.specs.declared.rules.Action.the-variants.{Make, Give, Go, Push}
 use Rattle.engine.specs.declared.step.State.{State}
 use Rattle.engine.specs.declared.step.Status.{Status}
 use Rattle.engine.specs.declared.step.Status.the-variants.{Going, Done, NoSlot, NoPlace}
 use Rattle.engine.specs.declared.step.Turn.{Turn}
-use Rattle.engine.specs.Rules.{onArgument, onFork, onFunction, rule}
+use Rattle.engine.specs.Rules.{Action, Make, Give, Go, Push, onArgument, onFork, onFunction, rule}
 use Rattle.engine.specs.Step.{Stepped, at, beside, meetFrame, meet, carry, step}
 use Rattle.engine.specs.Ready.{Ready, Waits}
 

@@ -29,12 +29,10 @@ use Rattle.table.proofs.FrameLaws.{frame-room-long, frame-is, length-put-frame,
 use Rattle.table.proofs.FrameLaws.{length-drop, record-dropped, zero-drop, stands-kept}
 use Rattle.table.proofs.HoldsLaws.{held-below, leaf-view, stem-view, fork-view, put-keeps, put-stem, put-fork}
 use Rattle.table.proofs.HoldsLaws.{zero-leaf, from-kept, from-append, untouched-refl, untouched-put, untouched-trans}
-use Rattle.engine.specs.declared.rules.Action.{Action}
-use Rattle.engine.specs.declared.rules.Action.the-variants.{Make, Give, Go, Push}
 use Rattle.engine.specs.declared.step.State.{State}
 use Rattle.engine.specs.declared.step.Status.the-variants.{Going, Done as IsDone, NoSlot, NoPlace}
 use Rattle.engine.specs.declared.RunAnswer.the-variants.{Done, Stopped}
-use Rattle.engine.specs.Rules.{rule, onFunction, onFork, onArgument}
+use Rattle.engine.specs.Rules.{Action, Make, Give, Go, Push, rule, onFunction, onFork, onArgument}
 use Rattle.engine.specs.Step.{Stepped, at, beside, meetFrame, meet, carry, step}
 use Rattle.engine.specs.Run.{Ran, ran, resume, drive}
 use Rattle.engine.specs.Run as engine

@@ -13,7 +13,6 @@ use Rattle.manifest.proofs.Lists.{list-step, list-stop, list-none}
 use Rattle.nodes.specs.Records.{Node as Record}
 use Rattle.bundle.specs.declared.references.Reference.the-variants.{Export}
 use Rattle.bundle.specs.References.{referenceEnd, referenceHash, hashesFrom}
-use Rattle.table.specs.declared.slots.Slot.{Slot}
 use Rattle.loader.specs.Written.{slotNamed, slotsNamed}
 
 -- the slots of the first j of n exports stand in `out`, which was `old`; the others stand from p on in the manifest
@@ -64,20 +63,20 @@ module _ (m : List ℕ) (rs : List Record) (n at : ℕ) (old : List ℕ) where
 
       -- h and x stand for its hash and its slot
       pub named-on : {q : ℕ} → z ≡ To q → n ≤ length old → {h : List ℕ} → h ≡ referenceHash m Export p →
-          {x : Slot} → x ≡ slotNamed rs h → Named m rs n at old (set out j (x .0)) q (j + 1)
+          {x : ℕ} → x ≡ slotNamed rs h .0 → Named m rs n at old (set out j x) q (j + 1)
       unfolding slotsNamed
       named-on {q} g room eh {x} ex =
           let on = list-step (referenceEnd m Export) (referenceHash m Export) (n - j) p (omega arith) e g in
           let d : n - (j + 1) ≡ n - j - 1 = omega arith in
           let behind : List ℕ = slotsNamed rs (hashesFrom m Export (n - j - 1) q) in
-          let w : slotsNamed rs (hashesFrom m Export n at) ≡ take j out ++ (x .0 ∷ behind) =
+          let w : slotsNamed rs (hashesFrom m Export n at) ≡ take j out ++ (x ∷ behind) =
           rw (ex, eh) (rw on at (f .done)) in
           let k : suc (length (hashesFrom m Export (n - j - 1) q)) ≡ n - j = rw on at (f .left) in
           record {
             below = omega arith;
-            done = rw (d, take-one out j (x .0) (omega (arith, f .long)))
-                (w ∙ sym (append-assoc (take j out) (x .0 ∷ []) behind));
+            done = rw (d, take-one out j x (omega (arith, f .long)))
+                (w ∙ sym (append-assoc (take j out) (x ∷ []) behind));
             left = rw d (let u : length (hashesFrom m Export (n - j - 1) q) ≡ n - j - 1 = omega (arith, k) in u);
-            rest = drop-one out j (x .0) old (f .rest);
+            rest = drop-one out j x old (f .rest);
             long = simp length-set (f .long);
           }

@@ -18,7 +18,6 @@ use manifest::content::count_at;
 use manifest_shape::Manifest;
 use manifest_shape::parts::Parsed;
 use nodes::find::find_record;
-use table::slots::Slot;
 use wire::Found;
 
 // How many exports a manifest section lists, and where they stand.
@@ -45,14 +44,17 @@ pub(crate) fn list_exports(m: &[u8]) -> Listed
     }
 }
 
-// The slot of the record with a hash.
-fn slot_named(s: &[u8], slots: &[u32], h: &[u8]) -> Slot
+// The slot of the record with a hash, as a word.
+fn slot_named(s: &[u8], slots: &[u32], h: &[u8]) -> u32
     requires { ⌜ Slotted (nodesOf (now s)) (now slots) ⌝ }
-    ensures { λ r. ⌜ r ≡ slotNamed (nodesOf (now (s .entry))) (now (h .entry)) ⌝ }
+    ensures { λ r. ⌜ r ≡ slotNamed (nodesOf (now (s .entry))) (now (h .entry)) .0 ⌝ }
 {
     match find_record(s, h) {
-        Found::Index(i) => slot_at(slots, i),
-        Found::Nothing => Slot::ZERO,
+        Found::Index(i) => {
+            let slot = slot_at(slots, i);
+            slot.0 as u32
+        }
+        Found::Nothing => 0,
     }
 }
 
@@ -70,7 +72,7 @@ pub(crate) fn put_exports(m: &[u8], n: usize, at: usize, s: &[u8], slots: &[u32]
         match reference_end(m, Reference::Export, p) {
             Parsed::To(q) => {
                 let slot = slot_named(s, slots, reference_hash(m, Reference::Export, p));
-                out[j] = slot.0;
+                out[j] = slot;
                 p = q;
                 j += 1;
             }

@@ -16,7 +16,7 @@ pub(crate) fn slot_at(slots: &[u32], i: usize) -> Slot
     requires { ⌜ (i < length (now slots)) × (0 < getD (now slots) i 0) ⌝ }
     ensures { λ r. ⌜ r ≡ slotAt (now (slots .entry)) i ⌝ }
 {
-    Slot(slots[i] - 1)
+    Slot(slots[i] as usize - 1)
 }
 
 // The node of a record, by its two links.

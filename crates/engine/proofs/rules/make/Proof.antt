@@ -1,9 +1,9 @@
 -- With a slot for the node, or without.
 use native.Mathlib.Omega.{arith}
+use borrow.Author.Needs.{needs}
 use Rattle.table.proofs.SlotLaws.{room-most}
 use Rattle.engine.proofs.Keeps.{waits-more}
 use Rattle.engine.proofs.StepWays.{carry-make, carry-full}
-use borrow.Author.Needs.{needs}
 use Rattle.engine.proofs.rules.make.Statement.{statement}
 use Rattle.engine.proofs.rules.make.Tie as tie
 

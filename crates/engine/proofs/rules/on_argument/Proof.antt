@@ -1,9 +1,9 @@
 -- The three nodes that x may be.
 use mathlib.Core.Path.{sym, subst}
+use borrow.Author.Needs.{needs}
 use Rattle.engine.specs.Ready.{Carries}
 use Rattle.engine.proofs.RuleWays.{argument-leaf, argument-stem, argument-fork}
 use Rattle.engine.proofs.StepWays.{carry-as, carry-give, carry-go}
-use borrow.Author.Needs.{needs}
 use Rattle.engine.proofs.rules.on_argument.Statement.{statement}
 use Rattle.engine.proofs.rules.on_argument.Tie as tie
 

@@ -1,9 +1,9 @@
 -- The three nodes that the fork's first child may be.
 use mathlib.Core.Path.{sym, subst}
+use borrow.Author.Needs.{needs}
 use Rattle.engine.specs.Ready.{Carries}
 use Rattle.engine.proofs.RuleWays.{fork-leaf, fork-stem, fork-fork}
 use Rattle.engine.proofs.StepWays.{carry-as, carry-give}
-use borrow.Author.Needs.{needs}
 use Rattle.engine.proofs.rules.on_fork.Statement.{statement}
 use Rattle.engine.proofs.rules.on_fork.Tie as tie
 

@@ -1,8 +1,8 @@
 -- With a place for the frame, or without.
 use native.Mathlib.Omega.{arith}
+use borrow.Author.Needs.{needs}
 use Rattle.engine.proofs.Keeps.{names-more}
 use Rattle.engine.proofs.StepWays.{carry-push, carry-no-place}
-use borrow.Author.Needs.{needs}
 use Rattle.engine.proofs.rules.push.Statement.{statement}
 use Rattle.engine.proofs.rules.push.Tie as tie
 

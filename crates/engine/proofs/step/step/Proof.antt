@@ -1,11 +1,11 @@
 -- The three nodes that f may be; a fork's first child is a used slot, and so in the room.
 use mathlib.Core.Path.{sym, _∙_, subst}
 use native.Mathlib.Omega.{arith}
+use borrow.Author.Needs.{needs}
 use Rattle.table.specs.Slots.{Below}
 use Rattle.engine.proofs.Keeps.{children, rule-carries}
 use Rattle.engine.proofs.RuleWays.{rule-leaf, rule-stem, rule-fork}
 use Rattle.engine.proofs.StepWays.{step-carry}
-use borrow.Author.Needs.{needs}
 use Rattle.engine.proofs.step.step.Statement.{statement}
 use Rattle.engine.proofs.step.step.Tie as tie
 

@@ -1,7 +1,7 @@
 -- The words of each of the three frames; a slot that a frame names is a word.
-use borrow.Author.Needs.{needs}
 use mathlib.Core.Path.{subst}
 use native.Mathlib.Omega.{arith}
+use borrow.Author.Needs.{needs}
 use Rattle.table.specs.Limits.{maxSlots}
 use Rattle.table.specs.Frames.{putFrame, Names}
 use Rattle.table.proofs.frames.put_frame.Statement.{statement}

@@ -1,7 +1,7 @@
 -- A negative number, a used one, and one that is not used.
+use borrow.Author.Needs.{needs}
 use Rattle.table.proofs.Signed.{below-zero, not-below, cast-32}
 use Rattle.table.proofs.SlotLaws.{place-negative, place-in, place-out}
-use borrow.Author.Needs.{needs}
 use Rattle.table.proofs.slots.Slot.place.Statement.{statement}
 use Rattle.table.proofs.slots.Slot.place.Tie as tie
 
