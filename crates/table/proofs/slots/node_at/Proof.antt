@@ -50,7 +50,8 @@ returns-2 c = node-stem _ _ (c .before .before .if1 .left) (c .if2 .taken)
 cast-t6 : tie.Need-cast-t6
 cast-t6 c =
     let at = width * c .before .before .before .before .before .args .i .0 in
-    omega (arith, c .before .before .before .shared-slice-known .given at)
+    let words = c .before .shared-slice-known2 .given in
+    omega (arith, words at, words (at + 1))
 
 sub-t10 : tie.Need-sub-t10
 sub-t10 c = search needs
@@ -58,7 +59,8 @@ sub-t10 c = search needs
 cast-t16 : tie.Need-cast-t16
 cast-t16 c =
     let at = width * c .before .before .before .before .before .args .i .0 in
-    omega (arith, c .before .shared-slice-known2 .given (at + 1))
+    let words = c .before .shared-slice-known2 .given in
+    omega (arith, words at, words (at + 1))
 
 sub-t17 : tie.Need-sub-t17
 sub-t17 c = search needs
