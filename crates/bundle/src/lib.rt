@@ -14,6 +14,7 @@ use manifest_shape::Manifest;
 use nodes::faults::Fault;
 use nodes::links::LINK_WORDS;
 use nodes::links::SLOT_WORDS;
+use nodes::starts::START_WORDS;
 
 pub mod directory;
 pub mod exports;
@@ -47,16 +48,18 @@ fn check_nodes(m: &[u8], s: &[u8], links: &mut [u32], slots: &mut [u32]) -> u32
     if !nodes::records::shaped(s) {
         return 15;
     }
-    if nodes::faults::some_faulty(s, Fault::Hash) {
+    let mut starts: [u32; START_WORDS] = [0; START_WORDS];
+    nodes::starts::fill_starts(s, nodes::records::count(s), &mut starts);
+    if nodes::faults::some_faulty(s, &starts, Fault::Hash) {
         return 16;
     }
-    if nodes::faults::some_faulty(s, Fault::Twice) {
+    if nodes::faults::some_faulty(s, &starts, Fault::Twice) {
         return 17;
     }
-    if nodes::faults::some_faulty(s, Fault::Child) {
+    if nodes::faults::some_faulty(s, &starts, Fault::Child) {
         return 18;
     }
-    if nodes::links::circular(s, links, slots) {
+    if nodes::links::circular(s, &starts, links, slots) {
         return 19;
     }
     if unresolved(m, s) {

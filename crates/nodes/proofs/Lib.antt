@@ -5,3 +5,7 @@ pub mod Payloads
 pub mod Filling
 pub mod Placing
 pub mod Slots
+pub mod StartTable
+pub mod Searches
+pub mod SomeFault
+pub mod StartsFilling

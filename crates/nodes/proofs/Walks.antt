@@ -4,6 +4,7 @@ use mathlib.Core.Path.{_≡_, refl, sym, ap, _∙_}
 use mathlib.Core.List.{List, [], _∷_}
 use mathlib.Core.Bool.{Bool, true, false}
 use native.Mathlib.Omega.{arith}
+use borrow.Author.Tests.{leb-true, eqb-true}
 use lib.Dec.{leb, eqb}
 use lib.ListN.{length}
 use Rattle.wire.specs.Wire.{numberAt, spanEnd, span, sameBytes, onPos, indexOf, someOf}
@@ -22,6 +23,15 @@ payload-at s at n e =
     of-number (numberAt 1 s at) _ e λ tag i k.
     end-at s at n refl (of-test (eqb n (32 * tag + 1)) (of-test (leb tag 2) k .1) .1)
 
+-- its tag is at most 2, so that it names at most two hashes
+payload-short : (s : List ℕ) (at n : ℕ) {q : ℕ} → payloadEnd s at n ≡ At q → n ≤ 65
+unfolding payloadEnd
+payload-short s at n e =
+    of-number (numberAt 1 s at) _ e λ tag i k.
+    let (low, rest) = of-test (leb tag 2) k in
+    let (size, end) = of-test (eqb n (32 * tag + 1)) rest in
+    omega (arith, leb-true tag 2 low, eqb-true n (32 * tag + 1) size)
+
 -- a record is in s, with its hash and the length of its payload
 pub record-in : (s : List ℕ) (at : ℕ) {p : Pos} {q : ℕ} → p ≡ recordEnd s at → p ≡ At q → (at + 36 ≤ q) × (q ≤ length s)
 unfolding recordEnd
@@ -29,6 +39,14 @@ record-in s at e f =
     of-pos (spanEnd s at 32) _ (sym e ∙ f) λ p i g.
     of-number (numberAt 4 s p) _ g λ n j k.
     (omega (arith, end-at s at 32 refl i, payload-at s (p + 4) n k), omega (arith, payload-at s (p + 4) n k))
+
+-- and has at most 101 bytes
+pub record-short : (s : List ℕ) (at : ℕ) {p : Pos} {q : ℕ} → p ≡ recordEnd s at → p ≡ At q → q ≤ at + 101
+unfolding recordEnd
+record-short s at e f =
+    of-pos (spanEnd s at 32) _ (sym e ∙ f) λ p i g.
+    of-number (numberAt 4 s p) _ g λ n j k.
+    omega (arith, end-at s at 32 refl i, payload-at s (p + 4) n k, payload-short s (p + 4) n k)
 
 module _ (s : List ℕ) where
   ends-some : (n p : ℕ) → 0 < n → recordsEnd s n p ≡ onPos (recordEnd s p) (λ q. recordsEnd s (n - 1) q) Past
@@ -55,10 +73,6 @@ module _ (s : List ℕ) where
   pub find-none : (n p : ℕ) (h : List ℕ) (i : ℕ) → n ≤ 0 → indexOf h i (hashes (records s n p)) ≡ Nothing
   unfolding indexOf hashes
   find-none n p h i l = rw (records-none n p l)
-
-  pub faulty-none : (n p : ℕ) (fault : Fault) (all : List Node) → n ≤ 0 → someFaulty fault all (records s n p) ≡ false
-  unfolding someFaulty someOf
-  faulty-none n p fault all l = rw (records-none n p l)
 
   -- as many as asked for, where they have an end; at most as many in any case
   pub records-all : (n p : ℕ) {q : ℕ} → recordsEnd s n p ≡ At q → length (records s n p) ≡ n
@@ -104,18 +118,3 @@ module _ (s : List ℕ) where
         pub find-on : t ≡ false → indexOf h i (hashes (records s n p)) ≡ indexOf h (i + 1) (hashes (records s (n - 1) q))
         unfolding indexOf hashes
         find-on g = rw (records-on f, ← ew, ← et, g)
-
-    -- a fault; t is whether the record has it
-    module _ (fault : Fault) (all : List Node) where
-      pub faulty-past : x ≡ Past → someFaulty fault all (records s n p) ≡ false
-      unfolding someFaulty someOf
-      faulty-past f = rw (records-past f)
-
-      module _ {q : ℕ} (f : x ≡ At q) {t : Bool} (et : t ≡ faulty fault all (recordAt s p q) (records s (n - 1) q)) where
-        pub faulty-hit : t ≡ true → someFaulty fault all (records s n p) ≡ true
-        unfolding someFaulty someOf
-        faulty-hit g = rw (records-on f, ← et, g)
-
-        pub faulty-on : t ≡ false → someFaulty fault all (records s n p) ≡ someFaulty fault all (records s (n - 1) q)
-        unfolding someFaulty someOf
-        faulty-on g = rw (records-on f, ← et, g)

@@ -8,6 +8,8 @@ use Rattle.wire.specs.Wire.{numberAt, spanEnd, span, sameBytes, onPos, onNumber
 use Rattle.wire.specs.declared.Pos.{Pos}
 use Rattle.wire.specs.declared.Pos.the-variants.{At, Past}
 use Rattle.sha256_block.specs.Fips180.{sha256}
+use Rattle.sha256.specs.Running.{after}
+use Rattle.sha256.specs.declared.Running.{Running}
 use Rattle.sizes.specs.Sizes.{within, nodesSize}
 use Rattle.nodes.specs.declared.faults.Fault.{Fault}
 use Rattle.nodes.specs.declared.faults.Fault.the-variants.{Hash, Twice, Child}
@@ -69,6 +71,10 @@ shaped s =
 -- SHA-256 of the 23 bytes `arboricx.merkle.node.v1`, a zero byte, the payload
 unfoldable pub nodeHash : List ℕ → List ℕ
 nodeHash payload = sha256 (ascii "arboricx.merkle.node.v1" ++ (0 ∷ payload))
+
+-- the running hash after the bytes before the payload
+unfoldable pub domainState : Running
+domainState = after (ascii "arboricx.merkle.node.v1" ++ (0 ∷ []))
 
 unfoldable pub hashes : List Node → List (List ℕ)
 hashes [] = []

@@ -1,7 +1,10 @@
 // Finding a record by its hash.
 ghost use mathlib.Core.Path.{_≡_};
-ghost use Rattle.wire.specs.Wire.{indexOf, found};
+ghost use Prim.Native.Nat.{_+_, _≤_};
+ghost use lib.ListN.{length, drop};
+ghost use Rattle.wire.specs.Wire.{span, sameBytes, indexOf, found};
 ghost use Rattle.nodes.specs.Records.{records, nodesOf, hashes};
+ghost use Rattle.nodes.specs.Starts.{Starts};
 use crate::records::count;
 use crate::records::record_end;
 use wire::Found;
@@ -30,21 +33,14 @@ pub fn find(s: &[u8], h: &[u8], n: u64, at: usize) -> Found
     Found::Nothing
 }
 
-// Whether one of the n records from a position on has the hash.
-pub(crate) fn has(s: &[u8], h: &[u8], n: u64, at: usize) -> bool
-    ensures { λ r. ⌜ r ≡ found (indexOf (now (h .entry)) 0 (hashes (records (now (s .entry)) n at))) ⌝ }
-{
-    match find(s, h, n, at) {
-        Found::Index(_) => true,
-        Found::Nothing => false,
-    }
-}
-
 // Whether a record of the section has the hash.
 pub fn has_record(s: &[u8], h: &[u8]) -> bool
     ensures { λ r. ⌜ r ≡ found (indexOf (now (h .entry)) 0 (hashes (nodesOf (now (s .entry))))) ⌝ }
 {
-    has(s, h, count(s), 8)
+    match find(s, h, count(s), 8) {
+        Found::Index(_) => true,
+        Found::Nothing => false,
+    }
 }
 
 // The number of the record of the section that has the hash.
@@ -52,4 +48,45 @@ pub fn find_record(s: &[u8], h: &[u8]) -> Found
     ensures { λ r. ⌜ r ≡ indexOf (now (h .entry)) 0 (hashes (nodesOf (now (s .entry)))) ⌝ }
 {
     find(s, h, count(s), 8)
+}
+
+// Whether the hash at a position is h.
+fn same_hash(s: &[u8], p: usize, h: &[u8]) -> bool
+    requires { ⌜ (p + 32 ≤ length (now s)) × (length (now h) ≡ 32) ⌝ }
+    ensures { λ r. ⌜ r ≡ sameBytes (span (now (s .entry)) p 32) (now (h .entry)) ⌝ }
+{
+    let mut i: usize = 0;
+    while i < 32 {
+        if s[p + i] != h[i] {
+            return false;
+        }
+        i += 1;
+    }
+    true
+}
+
+// The number of the first of the n records, from record `from` on, that has the hash. Looks only where the records start.
+pub(crate) fn find_from(s: &[u8], starts: &[u32], from: usize, n: usize, h: &[u8]) -> Found
+    requires { ⌜ Starts (now s) n (now starts) × (from ≤ n) × (length (now h) ≡ 32) ⌝ }
+    ensures { λ r. ⌜ r ≡ indexOf (now (h .entry)) from (hashes (drop from (records (now (s .entry)) n 8))) ⌝ }
+{
+    let mut i = from;
+    while i < n {
+        if same_hash(s, starts[i] as usize, h) {
+            return Found::Index(i);
+        }
+        i += 1;
+    }
+    Found::Nothing
+}
+
+// Whether one of them has the hash.
+pub(crate) fn has_from(s: &[u8], starts: &[u32], from: usize, n: usize, h: &[u8]) -> bool
+    requires { ⌜ Starts (now s) n (now starts) × (from ≤ n) × (length (now h) ≡ 32) ⌝ }
+    ensures { λ r. ⌜ r ≡ found (indexOf (now (h .entry)) 0 (hashes (drop from (records (now (s .entry)) n 8)))) ⌝ }
+{
+    match find_from(s, starts, from, n, h) {
+        Found::Index(_) => true,
+        Found::Nothing => false,
+    }
 }

@@ -3,3 +3,4 @@ pub mod faults;
 pub mod find;
 pub mod links;
 pub mod records;
+pub mod starts;

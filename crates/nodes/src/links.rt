@@ -1,14 +1,14 @@
 // The children of records by their numbers, and whether a node is its own descendant (19).
 ghost use mathlib.Core.Path.{_≡_};
-ghost use mathlib.Core.Bool.{true};
 ghost use mathlib.Core.List.{_++_};
 ghost use Prim.Native.Nat.{_*_, _≤_};
 ghost use lib.ListN.{length, drop, take, replicate};
 ghost use Rattle.sizes.specs.Sizes.{nodesSize};
 ghost use Rattle.placing.specs.Placing.{Placed};
-ghost use Rattle.nodes.specs.Records.{childrenOf, records, nodesOf, shaped};
+ghost use Rattle.nodes.specs.Records.{childrenOf, records, count, nodesOf};
 ghost use Rattle.nodes.specs.Links.{linkOf, firstLink, secondLink, linksOf, placedOf, circular, Sized, Scratch, Placing};
-use crate::find::find;
+ghost use Rattle.nodes.specs.Starts.{Starts};
+use crate::find::find_from;
 use crate::records::count;
 use crate::records::record_end;
 use wire::Found;
@@ -20,44 +20,44 @@ pub const LINK_WORDS: usize = 1024;
 pub const SLOT_WORDS: usize = 512;
 
 // The number, plus one, of the record with a hash.
-fn link(s: &[u8], n: u64, h: &[u8]) -> u32
-    requires { ⌜ n ≤ nodesSize .most ⌝ }
+fn link(s: &[u8], starts: &[u32], n: usize, h: &[u8]) -> u32
+    requires { ⌜ Starts (now s) n (now starts) × (length (now h) ≡ 32) ⌝ }
     ensures { λ r. ⌜ r ≡ linkOf (records (now (s .entry)) n 8) (now (h .entry)) ⌝ }
 {
-    match find(s, h, n, 8) {
+    match find_from(s, starts, 0, n, h) {
         Found::Index(i) => i as u32 + 1,
         Found::Nothing => 0,
     }
 }
 
 // The link of a payload's first child.
-fn first_link(s: &[u8], n: u64, payload: &[u8]) -> u32
-    requires { ⌜ n ≤ nodesSize .most ⌝ }
+fn first_link(s: &[u8], starts: &[u32], n: usize, payload: &[u8]) -> u32
+    requires { ⌜ Starts (now s) n (now starts) ⌝ }
     ensures { λ r. ⌜ r ≡ firstLink (records (now (s .entry)) n 8) (childrenOf (now (payload .entry))) ⌝ }
 {
     if payload.len() == 33 {
-        return link(s, n, wire::span(payload, 1, 32));
+        return link(s, starts, n, wire::span(payload, 1, 32));
     }
     if payload.len() == 65 {
-        return link(s, n, wire::span(payload, 1, 32));
+        return link(s, starts, n, wire::span(payload, 1, 32));
     }
     0
 }
 
 // The link of its second child.
-fn second_link(s: &[u8], n: u64, payload: &[u8]) -> u32
-    requires { ⌜ n ≤ nodesSize .most ⌝ }
+fn second_link(s: &[u8], starts: &[u32], n: usize, payload: &[u8]) -> u32
+    requires { ⌜ Starts (now s) n (now starts) ⌝ }
     ensures { λ r. ⌜ r ≡ secondLink (records (now (s .entry)) n 8) (childrenOf (now (payload .entry))) ⌝ }
 {
     if payload.len() == 65 {
-        return link(s, n, wire::span(payload, 33, 32));
+        return link(s, starts, n, wire::span(payload, 33, 32));
     }
     0
 }
 
 // Writes the links of the n records, two to a record.
-pub fn fill_links(s: &[u8], n: u64, out: &mut [u32])
-    requires { ⌜ Sized (now s) n × (2 * n ≤ length (now out)) ⌝ }
+pub fn fill_links(s: &[u8], starts: &[u32], n: u64, out: &mut [u32])
+    requires { ⌜ Starts (now s) n (now starts) × (2 * n ≤ length (now out)) ⌝ }
     ensures { λ r. ⌜ now (out .exit) ≡ linksOf (records (now (s .entry)) n 8) ++ drop (2 * n) (now (out .entry)) ⌝ }
 {
     let total = n as usize;
@@ -68,8 +68,8 @@ pub fn fill_links(s: &[u8], n: u64, out: &mut [u32])
             Pos::At(q) => {
                 let start = p + 36;
                 let size = q - start;
-                let x = first_link(s, n, wire::span(s, start, size));
-                let y = second_link(s, n, wire::span(s, start, size));
+                let x = first_link(s, starts, total, wire::span(s, start, size));
+                let y = second_link(s, starts, total, wire::span(s, start, size));
                 out[2 * k] = x;
                 out[2 * k + 1] = y;
                 p = q;
@@ -94,12 +94,12 @@ pub fn place(s: &[u8], n: u64, links: &[u32], slots: &mut [u32]) -> usize
 }
 
 // 19, of a section that has the stated shape: placing stops short. Leaves the links of the records and the slots that they got.
-pub fn circular(s: &[u8], links: &mut [u32], slots: &mut [u32]) -> bool
-    requires { ⌜ (shaped (now s) ≡ true) × Scratch (now links) (now slots) ⌝ }
+pub fn circular(s: &[u8], starts: &[u32], links: &mut [u32], slots: &mut [u32]) -> bool
+    requires { ⌜ Starts (now s) (count (now s)) (now starts) × Scratch (now links) (now slots) ⌝ }
     ensures { λ r. ⌜ (r ≡ circular (nodesOf (now (s .entry))))
         × Placing (nodesOf (now (s .entry))) (now (links .exit)) (now (slots .exit)) ⌝ }
 {
     let n = count(s);
-    fill_links(s, n, links);
+    fill_links(s, starts, n, links);
     place(s, n, links, slots) < n as usize
 }

@@ -1,6 +1,7 @@
 // The records of a nodes section: where each ends, and the hash of a node.
 ghost use mathlib.Core.Path.{_≡_};
-ghost use Rattle.nodes.specs.Records.{payloadEnd, recordEnd, recordsEnd, count, shaped, nodeHash};
+ghost use Rattle.nodes.specs.Records.{payloadEnd, recordEnd, recordsEnd, count, shaped, nodeHash, domainState};
+use sha256::Running;
 use sizes::Size;
 use wire::Num;
 use wire::Pos;
@@ -81,13 +82,19 @@ pub fn shaped(s: &[u8]) -> bool
     }
 }
 
-// SHA-256 of the domain, a zero byte and the payload.
-pub fn node_hash(payload: &[u8]) -> [u8; 32]
-    ensures { λ r. ⌜ r ≡ nodeHash (now (payload .entry)) ⌝ }
+// The running hash after the domain and a zero byte, which every node's hash starts with.
+pub(crate) fn domain() -> Running
+    ensures { λ r. ⌜ r ≡ domainState ⌝ }
 {
-    sha256::Running::new()
+    Running::new()
         .absorb(b"arboricx.merkle.node.v1")
         .absorb(b"\0")
-        .absorb(payload)
-        .finish()
+}
+
+// SHA-256 of the domain, a zero byte and the payload.
+pub(crate) fn node_hash(domain: Running, payload: &[u8]) -> [u8; 32]
+    requires { ⌜ domain ≡ domainState ⌝ }
+    ensures { λ r. ⌜ r ≡ nodeHash (now (payload .entry)) ⌝ }
+{
+    domain.absorb(payload).finish()
 }

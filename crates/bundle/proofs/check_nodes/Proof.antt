@@ -1,9 +1,13 @@
 -- The tests of the rows, each where those before it do not hold.
+use Prim.Native.Nat.{ℕ}
 use mathlib.Core.Path.{sym, _∙_}
 use native.Mathlib.Omega.{arith}
 use borrow.Author.Needs.{needs}
 use borrow.Author.Tests.{not-true, not-false}
+use lib.ListN.{length-replicate}
 use Rattle.bundle.specs.Checks.{firstOf, nodeChecks}
+use Rattle.nodes.proofs.Placing.{shaped-sized}
+use Rattle.nodes.proofs.StartTable.{starts-filled}
 use Rattle.bundle.proofs.check_nodes.Statement.{statement}
 use Rattle.bundle.proofs.check_nodes.Tie as tie
 
@@ -14,13 +18,33 @@ returns : tie.Need-returns
 unfolding firstOf nodeChecks
 returns c = (rw (sym (c .before .shaped .ensures) ∙ not-true _ (c .if1 .taken)), λ e. absurd (omega arith))
 
+count-requires : tie.Need-count-requires
+count-requires c κs = search needs
+
+slice-aggregate-fill-starts : tie.Need-slice-aggregate-fill-starts
+slice-aggregate-fill-starts c = search needs
+
+fill-starts-requires : tie.Need-fill-starts-requires
+fill-starts-requires c κs =
+    let at1 = c .before .before in
+    let formed = sym (at1 .before .shaped .ensures) ∙ not-false _ (at1 .if1 .left) in
+    let size = shaped-sized _ (c .before .count .ensures) formed in
+    (size, omega (arith, size .few, length-replicate {A = ℕ} 512 0))
+
+slice-aggregate-some-faulty : tie.Need-slice-aggregate-some-faulty
+slice-aggregate-some-faulty c = search needs
+
 some-faulty-requires : tie.Need-some-faulty-requires
-some-faulty-requires c κs = search needs
+some-faulty-requires c κs =
+    let filled = c .before .before in
+    let at1 = filled .before .before .before in
+    let formed = sym (at1 .before .shaped .ensures) ∙ not-false _ (at1 .if1 .left) in
+    starts-filled _ (filled .before .before .count .ensures) formed _ _ (filled .fill-starts .ensures)
 
 returns-2 : tie.Need-returns-2
 unfolding firstOf nodeChecks
 returns-2 c =
-    let at1 = c .before .before in (
+    let at1 = c .before .before .before .before .before .before .before in (
       rw (
         sym (at1 .before .shaped .ensures) ∙ not-false _ (at1 .if1 .left),
         sym (c .before .some-faulty .ensures) ∙ c .if2 .taken,
@@ -28,14 +52,21 @@ returns-2 c =
       λ e. absurd (omega arith),
     )
 
+slice-aggregate-some-faulty-2 : tie.Need-slice-aggregate-some-faulty-2
+slice-aggregate-some-faulty-2 c = search needs
+
 some-faulty-requires-2 : tie.Need-some-faulty-requires-2
-some-faulty-requires-2 c κs = search needs
+some-faulty-requires-2 c κs =
+    let filled = c .before .before .before .before .before in
+    let at1 = filled .before .before .before in
+    let formed = sym (at1 .before .shaped .ensures) ∙ not-false _ (at1 .if1 .left) in
+    starts-filled _ (filled .before .before .count .ensures) formed _ _ (filled .fill-starts .ensures)
 
 returns-3 : tie.Need-returns-3
 unfolding firstOf nodeChecks
 returns-3 c =
-    let at2 = c .before .before in
-    let at1 = at2 .before .before in (
+    let at2 = c .before .before .before in
+    let at1 = at2 .before .before .before .before .before .before .before in (
       rw (
         sym (at1 .before .shaped .ensures) ∙ not-false _ (at1 .if1 .left),
         sym (at2 .before .some-faulty .ensures) ∙ at2 .if2 .left,
@@ -44,15 +75,22 @@ returns-3 c =
       λ e. absurd (omega arith),
     )
 
+slice-aggregate-some-faulty-3 : tie.Need-slice-aggregate-some-faulty-3
+slice-aggregate-some-faulty-3 c = search needs
+
 some-faulty-requires-3 : tie.Need-some-faulty-requires-3
-some-faulty-requires-3 c κs = search needs
+some-faulty-requires-3 c κs =
+    let filled = c .before .before .before .before .before .before .before .before in
+    let at1 = filled .before .before .before in
+    let formed = sym (at1 .before .shaped .ensures) ∙ not-false _ (at1 .if1 .left) in
+    starts-filled _ (filled .before .before .count .ensures) formed _ _ (filled .fill-starts .ensures)
 
 returns-4 : tie.Need-returns-4
 unfolding firstOf nodeChecks
 returns-4 c =
-    let at3 = c .before .before in
-    let at2 = at3 .before .before in
-    let at1 = at2 .before .before in (
+    let at3 = c .before .before .before in
+    let at2 = at3 .before .before .before in
+    let at1 = at2 .before .before .before .before .before .before .before in (
       rw (
         sym (at1 .before .shaped .ensures) ∙ not-false _ (at1 .if1 .left),
         sym (at2 .before .some-faulty .ensures) ∙ at2 .if2 .left,
@@ -62,10 +100,17 @@ returns-4 c =
       λ e. absurd (omega arith),
     )
 
+slice-aggregate-circular : tie.Need-slice-aggregate-circular
+slice-aggregate-circular c = search needs
+
 circular-requires : tie.Need-circular-requires
 circular-requires c κs =
-    let at1 = c .before .before .before .before .before .before .before .before in
-    (sym (at1 .before .shaped .ensures) ∙ not-false _ (at1 .if1 .left), at1 .before .before .before .before .before .before .pre)
+    let filled = c .before .before .before .before .before .before .before .before .before .before .before .before .before in
+    let at1 = filled .before .before .before in
+    let formed = sym (at1 .before .shaped .ensures) ∙ not-false _ (at1 .if1 .left) in (
+      starts-filled _ (filled .before .before .count .ensures) formed _ _ (filled .fill-starts .ensures),
+      at1 .before .before .before .before .before .before .pre,
+    )
 
 same-length : tie.Need-same-length
 same-length c = search needs
@@ -76,10 +121,10 @@ same-length-2 c = search needs
 returns-5 : tie.Need-returns-5
 unfolding firstOf nodeChecks
 returns-5 c =
-    let at4 = c .before .before .before .before .before .before .before .before in
-    let at3 = at4 .before .before in
-    let at2 = at3 .before .before in
-    let at1 = at2 .before .before in (
+    let at4 = c .before .before .before .before .before .before .before .before .before in
+    let at3 = at4 .before .before .before in
+    let at2 = at3 .before .before .before in
+    let at1 = at2 .before .before .before .before .before .before .before in (
       rw (
         sym (at1 .before .shaped .ensures) ∙ not-false _ (at1 .if1 .left),
         sym (at2 .before .some-faulty .ensures) ∙ at2 .if2 .left,
@@ -103,10 +148,10 @@ returns-6 : tie.Need-returns-6
 unfolding firstOf nodeChecks
 returns-6 c =
     let at5 = c .before .before in
-    let at4 = at5 .before .before .before .before .before .before .before .before in
-    let at3 = at4 .before .before in
-    let at2 = at3 .before .before in
-    let at1 = at2 .before .before in (
+    let at4 = at5 .before .before .before .before .before .before .before .before .before in
+    let at3 = at4 .before .before .before in
+    let at2 = at3 .before .before .before in
+    let at1 = at2 .before .before .before .before .before .before .before in (
       rw (
         sym (at1 .before .shaped .ensures) ∙ not-false _ (at1 .if1 .left),
         sym (at2 .before .some-faulty .ensures) ∙ at2 .if2 .left,
@@ -128,10 +173,10 @@ returns-7 : tie.Need-returns-7
 unfolding firstOf nodeChecks
 returns-7 c =
     let at5 = c .before .before in
-    let at4 = at5 .before .before .before .before .before .before .before .before in
-    let at3 = at4 .before .before in
-    let at2 = at3 .before .before in
-    let at1 = at2 .before .before in (
+    let at4 = at5 .before .before .before .before .before .before .before .before .before in
+    let at3 = at4 .before .before .before in
+    let at2 = at3 .before .before .before in
+    let at1 = at2 .before .before .before .before .before .before .before in (
       rw (
         sym (at1 .before .shaped .ensures) ∙ not-false _ (at1 .if1 .left),
         sym (at2 .before .some-faulty .ensures) ∙ at2 .if2 .left,
@@ -149,12 +194,19 @@ check-nodes-spec =
     (tie.spec
     shaped-requires
     returns
+    count-requires
+    slice-aggregate-fill-starts
+    fill-starts-requires
+    slice-aggregate-some-faulty
     some-faulty-requires
     returns-2
+    slice-aggregate-some-faulty-2
     some-faulty-requires-2
     returns-3
+    slice-aggregate-some-faulty-3
     some-faulty-requires-3
     returns-4
+    slice-aggregate-circular
     circular-requires
     same-length
     same-length-2

@@ -1,18 +1,79 @@
--- The records are as many as the count says.
+-- One of the records from record k on has the fault where one of all has it.
+use Prim.Native.Nat.{_-_, _≤_}
+use mathlib.Core.Path.{_≡_, refl, sym, _∙_}
+use native.Mathlib.Omega.{arith}
 use borrow.Author.Needs.{needs}
-use Rattle.nodes.specs.Records.{nodesOf}
+use lib.ListN.{drop}
+use Rattle.nodes.specs.Records.{records, nodesOf, someFaulty}
+use Rattle.nodes.proofs.StartTable.{starts-counted}
+use Rattle.nodes.proofs.SomeFault.{faulty-hit, faulty-on, faulty-none}
 use Rattle.nodes.proofs.faults.some_faulty.Statement.{statement}
 use Rattle.nodes.proofs.faults.some_faulty.Tie as tie
 
-count-requires : tie.Need-count-requires
+abbrev Inv-loop : tie.InvT-loop
+Inv-loop s starts fault n begun k₀ k =
+    (k ≤ n) ×
+    (someFaulty fault (records s n 8) (records s n 8) ≡ someFaulty fault (records s n 8) (drop k (records s n 8)))
+
+abbrev μ-loop : tie.MeasureT-loop
+μ-loop s starts fault n begun k₀ k = n - k
+
+count-requires : tie.Need-count-requires Inv-loop μ-loop
 count-requires c κs = search needs
 
-some-faulty-of-requires : tie.Need-some-faulty-of-requires
-some-faulty-of-requires c κs = search needs
+domain-requires : tie.Need-domain-requires Inv-loop μ-loop
+domain-requires c κs = search needs
 
-returns : tie.Need-returns
+loop-holds : tie.Need-loop-holds Inv-loop μ-loop
+loop-holds c = (omega arith, refl)
+
+faulty-requires : tie.Need-faulty-requires Inv-loop μ-loop
+faulty-requires c κs =
+    let e = c .before .before .before in
+    (starts-counted (e .count .ensures) (e .before .before .before .pre), omega arith, c .before .before .domain .ensures)
+
+returns : tie.Need-returns Inv-loop μ-loop
 unfolding nodesOf
-returns c = rw (← c .before .count .ensures) (c .some-faulty-of .ensures)
+returns c =
+    let e = c .before .before .before .before .before in
+    let table = starts-counted (e .count .ensures) (e .before .before .before .pre) in
+    rw (← e .count .ensures)
+    (sym
+    (c .before .before .before .loop .inv .1 ∙ faulty-hit table _ _ _ (omega arith) (c .before .faulty .ensures) (c .if1 .taken)))
+
+add-k : tie.Need-add-k Inv-loop μ-loop
+add-k c = search needs
+
+loop-less : tie.Need-loop-less Inv-loop μ-loop
+loop-less c = search needs
+
+loop-again : tie.Need-loop-again Inv-loop μ-loop
+loop-again c =
+    let e = c .before .before .before .before .before in
+    let table = starts-counted (e .count .ensures) (e .before .before .before .pre) in (
+      omega arith,
+      c .before .before .before .loop .inv .1 ∙ faulty-on table _ _ _ (omega arith) (c .before .faulty .ensures) (c .if1 .left),
+    )
+
+returns-2 : tie.Need-returns-2 Inv-loop μ-loop
+unfolding nodesOf
+returns-2 c =
+    let e = c .before .before .before in
+    let table = starts-counted (e .count .ensures) (e .before .before .before .pre) in
+    rw (← e .count .ensures) (sym (c .before .loop .inv .1 ∙ faulty-none table _ _ (c .before .loop .k) (omega arith)))
 
 pub some-faulty-spec : {M : Type 1} → statement M
-some-faulty-spec = tie.close (tie.spec count-requires some-faulty-of-requires returns)
+some-faulty-spec =
+    tie.close
+    (tie.spec
+    Inv-loop
+    μ-loop
+    count-requires
+    domain-requires
+    loop-holds
+    faulty-requires
+    returns
+    add-k
+    loop-less
+    loop-again
+    returns-2)

@@ -1,7 +1,8 @@
--- The shape says how many records there are; their links are filled in, and placing counts.
+-- The table of starts says how many records there are; their links are filled in, and placing counts.
 use native.Mathlib.Omega.{arith}
 use borrow.Author.Needs.{needs}
-use Rattle.nodes.proofs.Placing.{shaped-sized, links-lent, links-space, circular-is, placing-left}
+use Rattle.nodes.proofs.StartTable.{starts-counted}
+use Rattle.nodes.proofs.Placing.{links-lent, links-space, circular-is, placing-left}
 use Rattle.nodes.proofs.links.circular.Statement.{statement}
 use Rattle.nodes.proofs.links.circular.Tie as tie
 
@@ -10,16 +11,16 @@ count-requires c κs = search needs
 
 fill-links-requires : tie.Need-fill-links-requires
 fill-links-requires c κs =
-    let lent = c .before .before .before .before .before .pre in
-    let size = shaped-sized _ (c .before .count .ensures) (lent .0) in
-    (size, omega (arith, size .few, lent .1 .space))
+    let lent = c .before .before .before .before .before .before .pre in
+    let table = starts-counted (c .before .count .ensures) (lent .0) in
+    (table, omega (arith, table .sized .few, lent .1 .space))
 
 place-requires : tie.Need-place-requires
 place-requires c κs =
     let counted = c .before .before .before .before .before .before in
     let filled = c .before .before .before .before in
-    let lent = counted .before .before .before .before .pre in
-    let size = shaped-sized _ (counted .count .ensures) (lent .0) in
+    let lent = counted .before .before .before .before .before .pre in
+    let size = starts-counted (counted .count .ensures) (lent .0) .sized in
     let links = filled .fill-links .ensures in
     (size, links-lent _ _ size _ _ links, links-space _ _ size _ _ links, lent .1 .unplaced)
 
@@ -32,7 +33,8 @@ same-length-2 c = search needs
 returns : tie.Need-returns
 returns c =
     let counted = c .before .before .before .before .before .before .before .before .before in
-    let size = shaped-sized _ (counted .count .ensures) (counted .before .before .before .before .pre .0) in
+    let lent = counted .before .before .before .before .before .pre in
+    let size = starts-counted (counted .count .ensures) (lent .0) .sized in
     let filled = c .before .before .before .before .before .before .before in
     let placed = c .before .before in (
       circular-is _ _ size (counted .count .ensures) (placed .place .ensures),

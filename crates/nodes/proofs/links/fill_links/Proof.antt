@@ -9,13 +9,13 @@ use Rattle.nodes.proofs.links.fill_links.Statement.{statement}
 use Rattle.nodes.proofs.links.fill_links.Tie as tie
 
 abbrev Inv-loop : tie.InvT-loop
-Inv-loop s n out₀ total p₀ k₀ out p k = Filled s n out₀ out p k
+Inv-loop s starts n out₀ total p₀ k₀ out p k = Filled s n out₀ out p k
 
 abbrev μ-loop : tie.MeasureT-loop
-μ-loop s n out₀ total p₀ k₀ out p k = n - k
+μ-loop s starts n out₀ total p₀ k₀ out p k = n - k
 
 loop-holds : tie.Need-loop-holds Inv-loop μ-loop
-loop-holds c = filled-start (c .before .before .pre .0)
+loop-holds c = filled-start (c .before .before .before .pre .0 .sized)
 
 record-end-requires : tie.Need-record-end-requires Inv-loop μ-loop
 record-end-requires c κs = search needs
@@ -33,13 +33,13 @@ span-requires : tie.Need-span-requires Inv-loop μ-loop
 span-requires c κs = search needs
 
 first-link-requires : tie.Need-first-link-requires Inv-loop μ-loop
-first-link-requires c κs = search needs
+first-link-requires c κs = c .before .before .before .before .before .before .before .before .before .before .pre .0
 
 span-requires-2 : tie.Need-span-requires-2 Inv-loop μ-loop
 span-requires-2 c κs = search needs
 
 second-link-requires : tie.Need-second-link-requires Inv-loop μ-loop
-second-link-requires c κs = search needs
+second-link-requires c κs = c .before .before .before .before .before .before .before .before .before .before .before .before .pre .0
 
 mul-out : tie.Need-mul-out Inv-loop μ-loop
 mul-out c = search needs
@@ -73,7 +73,7 @@ loop-again c =
     let e = c .before .before .before .before .before in
     let turn = e .before .before .before .before in
     filled-on (turn .loop .inv) (omega arith) (e .before .before .record-end .ensures) (e .q .given .1)
-    (turn .before .before .before .pre .1) (c .before .before .before .span .ensures)
+    (turn .before .before .before .before .pre .1) (c .before .before .before .span .ensures)
     (c .before .before .first-link .ensures) (c .before .span2 .ensures) (c .second-link .ensures)
 
 enum-told : tie.Need-enum-told Inv-loop μ-loop

@@ -1,6 +1,9 @@
 -- The payload's length says whether there is a first child.
-use mathlib.Core.Path.{refl}
+use mathlib.Core.Path.{refl, ap, _∙_}
+use native.Mathlib.Omega.{arith}
 use borrow.Author.Needs.{needs}
+use lib.ListN.{length}
+use Rattle.wire.proofs.Spans.{span-length}
 use Rattle.nodes.specs.Links.{firstLink}
 use Rattle.nodes.proofs.Payloads.{children-one, children-two, children-none}
 use Rattle.nodes.proofs.links.first_link.Statement.{statement}
@@ -10,7 +13,8 @@ span-requires : tie.Need-span-requires
 span-requires c κs = search needs
 
 link-requires : tie.Need-link-requires
-link-requires c κs = search needs
+link-requires c κs =
+    (c .before .before .before .before .before .pre, ap length (c .span .ensures) ∙ span-length _ _ _ (omega arith))
 
 returns : tie.Need-returns
 unfolding firstLink
@@ -20,7 +24,8 @@ span-requires-2 : tie.Need-span-requires-2
 span-requires-2 c κs = search needs
 
 link-requires-2 : tie.Need-link-requires-2
-link-requires-2 c κs = search needs
+link-requires-2 c κs =
+    (c .before .before .before .before .before .before .pre, ap length (c .span2 .ensures) ∙ span-length _ _ _ (omega arith))
 
 returns-2 : tie.Need-returns-2
 unfolding firstLink

@@ -1,6 +1,9 @@
 -- A payload of 65 bytes has a second child, and no other has.
-use mathlib.Core.Path.{refl}
+use mathlib.Core.Path.{refl, ap, _∙_}
+use native.Mathlib.Omega.{arith}
 use borrow.Author.Needs.{needs}
+use lib.ListN.{length}
+use Rattle.wire.proofs.Spans.{span-length}
 use Rattle.nodes.specs.Links.{secondLink}
 use Rattle.nodes.proofs.Payloads.{children-two, no-second}
 use Rattle.nodes.proofs.links.second_link.Statement.{statement}
@@ -10,7 +13,8 @@ span-requires : tie.Need-span-requires
 span-requires c κs = search needs
 
 link-requires : tie.Need-link-requires
-link-requires c κs = search needs
+link-requires c κs =
+    (c .before .before .before .before .before .pre, ap length (c .span .ensures) ∙ span-length _ _ _ (omega arith))
 
 returns : tie.Need-returns
 unfolding secondLink

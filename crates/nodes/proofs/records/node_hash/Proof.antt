@@ -1,49 +1,30 @@
--- The parts are absorbed one after the other, which is absorbing their join.
+-- The payload is absorbed behind the domain, and finishing gives the hash of all.
+use mathlib.Core.List.{[], _∷_, _++_}
 use borrow.Author.Needs.{needs}
-use mathlib.Core.List.{[], _∷_, append-nil, flatten}
 use Rattle.wire.specs.Wire.{ascii}
-use Rattle.sha256.specs.Running.{absorbedAll}
-use Rattle.sha256.proofs.Clients.{finished-parts}
-use Rattle.nodes.specs.Records.{nodeHash}
+use Rattle.sha256.proofs.Clients.{absorbed-after, finished-after}
+use Rattle.nodes.specs.Records.{nodeHash, domainState}
 use Rattle.nodes.proofs.records.node_hash.Statement.{statement}
 use Rattle.nodes.proofs.records.node_hash.Tie as tie
 
-new-requires : tie.Need-new-requires
-new-requires c κs = search needs
-
-slice-aggregate-absorb : tie.Need-slice-aggregate-absorb
-slice-aggregate-absorb c = search needs
-
 absorb-requires : tie.Need-absorb-requires
 absorb-requires c κs = search needs
-
-slice-aggregate-absorb-2 : tie.Need-slice-aggregate-absorb-2
-slice-aggregate-absorb-2 c = search needs
-
-absorb-requires-2 : tie.Need-absorb-requires-2
-absorb-requires-2 c κs = search needs
-
-absorb-requires-3 : tie.Need-absorb-requires-3
-absorb-requires-3 c κs = search needs
 
 finish-requires : tie.Need-finish-requires
 finish-requires c κs = search needs
 
 returns : tie.Need-returns
-unfolding nodeHash absorbedAll flatten
+unfolding nodeHash domainState
 returns c =
-    let p = c .before .before .before .before .before .before .before .before .args .payload .now in
-    cc (finished-parts (ascii "arboricx.merkle.node.v1" ∷ (0 ∷ []) ∷ p ∷ []), append-nil p)
+    let start = c .before .before .before in
+    let p = start .args .payload .now in
+    rw (
+      c .finish .ensures,
+      c .before .absorb .ensures,
+      start .pre,
+      absorbed-after (ascii "arboricx.merkle.node.v1" ++ (0 ∷ [])) p,
+    )
+    (finished-after (ascii "arboricx.merkle.node.v1" ++ (0 ∷ p)))
 
 pub node-hash-spec : {M : Type 1} → statement M
-node-hash-spec =
-    tie.close
-    (tie.spec
-    new-requires
-    slice-aggregate-absorb
-    absorb-requires
-    slice-aggregate-absorb-2
-    absorb-requires-2
-    absorb-requires-3
-    finish-requires
-    returns)
+node-hash-spec = tie.close (tie.spec absorb-requires finish-requires returns)
