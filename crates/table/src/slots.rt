@@ -7,7 +7,7 @@ ghost use Rattle.table.specs.Sound.{slotSound, sound};
 ghost use lib.IntN.{pos};
 use crate::limits::Limit;
 
-// A slot's number.
+// A slot's number, as wide as an index: two narrower ones would share a register in the run's loop.
 pub struct Slot(pub usize);
 
 // Whether a number names a slot.
