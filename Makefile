@@ -16,7 +16,7 @@ TESTS = $(wildcard tests/*.c)
 BENCH = $(wildcard bench/*.c) tests/reference.c
 HEADERS = $(wildcard include/*.h tests/*.h bench/*.h)
 
-.PHONY: archive host test test-full header played faults bench
+.PHONY: archive host test test-full header example played faults bench
 archive:
 	@mkdir -p $(OUT)
 	@rt staticlib arboricx >$(OUT)/archive.log 2>&1 || { cat $(OUT)/archive.log; exit 1; }
@@ -42,17 +42,21 @@ $(OUT)/compare-sanitized: $(TESTS) $(HEADERS) $(ARCHIVE)
 $(OUT)/compare-faults: $(TESTS) $(HEADERS) $(ARCHIVE)
 	$(CC) $(CFLAGS) -DREFERENCE_FAULTS $(TESTS) $(ARCHIVE) -o $@
 
-test: header played faults $(OUT)/compare $(OUT)/compare-sanitized
+test: header example played faults $(OUT)/compare $(OUT)/compare-sanitized
 	$(OUT)/compare --seed $(SEED) --count 40000
 	$(OUT)/compare-sanitized --seed $(SEED) --count 8000
 
-test-full: header played faults $(OUT)/compare $(OUT)/compare-sanitized
+test-full: header example played faults $(OUT)/compare $(OUT)/compare-sanitized
 	$(OUT)/compare --seed $(SEED) --count 250000 --zeros 1
 	$(OUT)/compare-sanitized --seed $(SEED) --count 50000
 
 # The header, the archive and the source agree in what they declare.
 header: $(ARCHIVE)
 	python3 tests/header.py $(ARCHIVE)
+
+# The example of README.md builds and runs.
+example: $(ARCHIVE)
+	sh tests/example.sh $(ARCHIVE) $(OUT)/example
 
 # The host plays the sample bundle as expected.
 played: $(OUT)/play
