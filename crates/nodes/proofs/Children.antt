@@ -17,10 +17,11 @@ use Rattle.placing.specs.Placing.{Links}
 use Rattle.placing.specs.Circles.{Child, first, second}
 use Rattle.nodes.specs.Records.{Node, children, childrenOf, hashes}
 use Rattle.nodes.specs.Links.{linkTo, linkOf, firstLink, secondLink, links, linksOf}
+use Rattle.nodes.specs.Starts.{nodeAt}
 
--- record i; past the last, one with no hash and no children
+-- record i
 abbrev pub at : List Node → ℕ → Node
-at rs i = getD rs i (record { hash = []; payload = [] })
+at rs i = nodeAt rs i
 
 abbrev pub hashAt : List Node → ℕ → List ℕ
 hashAt rs i = at rs i .hash
