@@ -1,6 +1,7 @@
 /*
  * The yardstick for arboricx_run: the same seven rules over the same tables in plain C, with no check of the base, the
- * slots or the table, and no clearing of the job table.
+ * slots or the table, and no clearing of the job table at the start. A job that goes is zeroed, so that both leave the
+ * same words.
  */
 #ifndef PLAIN_RUN_H
 #define PLAIN_RUN_H
@@ -10,10 +11,7 @@
 
 #include "arboricx.h"
 
-/*
- * Answers as arboricx_run does where that one lets the run start. The words of `jobs` above the jobs that wait are left
- * as they are.
- */
+/* Answers as arboricx_run does where that one lets the run start, and leaves what it leaves if `jobs` was zero. */
 uint32_t plain_run(uint32_t *words, size_t words_len, int32_t base,
                    int32_t f, int32_t x, uint32_t used, uint32_t fuel,
                    uint32_t *jobs, size_t jobs_len,
