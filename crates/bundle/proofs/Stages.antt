@@ -7,7 +7,6 @@ use mathlib.Core.Bool.{Bool, true, false}
 use native.Mathlib.Omega.{arith}
 use lib.ListN.{length}
 use borrow.Author.Tests.{not-false}
-use Rattle.manifest.specs.Judged.{malformed}
 use Rattle.nodes.specs.declared.faults.Fault.the-variants.{Child}
 use Rattle.nodes.specs.Records.{shaped, nodesOf, someFaulty}
 use Rattle.nodes.specs.Links.{circular, Placing}
@@ -111,14 +110,9 @@ module _ (file : List ℕ) where
     unfolding checks
     sound-parts = clear-parts (nameChecks file) _ .0 sound-clear
 
-    -- the directory lies in it, the manifest and the nodes have their shapes, each child has a record, and none is its own
-    -- descendant
+    -- the directory lies in it, the nodes have their shape, each child has a record, and none is its own descendant
     pub sound-inside : headerBytes + entryBytes * sectionCount file ≤ length file
     sound-inside = clear-inside (names-parts (sound-parts .0) .0)
-
-    pub sound-manifest : malformed (manifestSection file) ≡ false
-    unfolding manifestChecks
-    sound-manifest = names-parts (sound-parts .0) .2 .0
 
     pub sound-shaped : shaped (nodesSection file) ≡ true
     unfolding nodeChecks

@@ -1,9 +1,11 @@
 // The hashes that roots and exports name: 20.
 ghost use mathlib.Core.Path.{_≡_};
+ghost use Rattle.manifest_shape.specs.declared.Manifest.the-variants.{Shape};
+ghost use Rattle.manifest_shape.specs.Shape.{manifestOf};
 ghost use Rattle.nodes.specs.Records.{lacks, nodesOf};
 ghost use Rattle.bundle.specs.References.{referenceEnd, referenceHash, hashesFrom, hashesAt, unresolved};
 use manifest::content::hash_at;
-use manifest_shape::Manifest;
+use manifest_shape::Layout;
 use manifest_shape::parts::Parsed;
 use manifest_shape::parts::export_end;
 use manifest_shape::parts::root_end;
@@ -69,19 +71,15 @@ fn lost(m: &[u8], kind: Reference, at: usize, s: &[u8]) -> bool
     }
 }
 
-// 20: a root's or export's hash has no record.
-pub(crate) fn unresolved(m: &[u8], s: &[u8]) -> bool
+// 20: a root's or export's hash has no record. The layout is the manifest's.
+pub(crate) fn unresolved(m: &[u8], l: Layout, s: &[u8]) -> bool
+    requires { ⌜ manifestOf (now m) ≡ Shape l ⌝ }
     ensures { λ r. ⌜ r ≡ unresolved (now (m .entry)) (now (s .entry)) ⌝ }
 {
-    match manifest_shape::read(m) {
-        Manifest::Shape(l) => {
-            let roots = l.roots;
-            let exports = l.exports;
-            if lost(m, Reference::Root, roots, s) {
-                return true;
-            }
-            lost(m, Reference::Export, exports, s)
-        }
-        Manifest::Malformed => false,
+    let roots = l.roots;
+    let exports = l.exports;
+    if lost(m, Reference::Root, roots, s) {
+        return true;
     }
+    lost(m, Reference::Export, exports, s)
 }

@@ -1,20 +1,17 @@
 -- Laws of the exports of a manifest that has the stated shape: how many there are, and where their hashes stand.
 use Prim.Native.Nat.{ℕ, _+_, _≤_}
-use mathlib.Core.Path.{_≡_, refl, sym, _∙_}
-use mathlib.Core.Bool.{false}
+use mathlib.Core.Path.{_≡_, refl}
 use mathlib.Core.List.{List}
 use lib.ListN.{length}
-use Rattle.wire.proofs.Bytes.{not-both}
 use Rattle.wire.proofs.Spans.{number-value}
 use Rattle.sizes.specs.Sizes.{exportsSize}
 use Rattle.manifest_shape.specs.declared.parts.Parsed.the-variants.{To}
 use Rattle.manifest_shape.specs.declared.parts.Kind.the-variants.{Export as ExportItem}
 use Rattle.manifest_shape.specs.declared.Layout.{Layout}
-use Rattle.manifest_shape.specs.declared.Manifest.{Manifest}
-use Rattle.manifest_shape.specs.declared.Manifest.the-variants.{Shape, Malformed}
+use Rattle.manifest_shape.specs.declared.Manifest.the-variants.{Shape}
 use Rattle.manifest_shape.specs.Shape.{countedEnd, manifestOf}
 use Rattle.manifest.specs.Content.{countAt, exportsAt}
-use Rattle.manifest.specs.Judged.{malformed, exportsOf}
+use Rattle.manifest.specs.Judged.{exportsOf}
 use Rattle.bundle.specs.declared.references.Reference.the-variants.{Export}
 use Rattle.bundle.specs.References.{exportHashes, hashesFrom, hashesAt}
 use Rattle.bundle.proofs.Hashes.{hashes-exports}
@@ -35,25 +32,19 @@ module _ (m : List ℕ) (at : ℕ) {end : ℕ} (g : countedEnd m ExportItem expo
   count-hashes =
       counted-number m ExportItem exportsSize at g λ n h low high ends. rw h (rw h at (hashes-exports m at))
 
--- those of the manifest; x and n stand for its layout and their count, as the calls answered them
-module _ (m : List ℕ) {x : Manifest} (e : x ≡ manifestOf m) where
-  module _ {l : Layout} (f : x ≡ Shape l) where
-    pub exports-inside : l .exports + 4 ≤ length m
-    exports-inside = shape-laid m l (sym e ∙ f) λ metadata extensions laid. count-inside m (l .exports) (laid .exports)
+-- those of the manifest; n stands for their count, as the call answered it
+module _ (m : List ℕ) {l : Layout} (e : manifestOf m ≡ Shape l) where
+  pub exports-inside : l .exports + 4 ≤ length m
+  exports-inside = shape-laid m l e λ metadata extensions laid. count-inside m (l .exports) (laid .exports)
 
-    pub exports-listed : {n : ℕ} → n ≡ countAt m (l .exports) →
-        (n ≡ length (exportsOf m)) × (hashesFrom m Export n (l .exports + 4) ≡ exportHashes (exportsOf m)) ×
-        (n ≤ exportsSize .most)
-    unfolding exportsOf
-    exports-listed g =
-        shape-laid m l (sym e ∙ f) λ metadata extensions laid.
-        rw (g, ← e, f) (
-          export-length m (l .exports) (laid .exports),
-          count-hashes m (l .exports) (laid .exports),
-          count-few m (l .exports) (laid .exports),
-        )
-
-  -- a manifest that is not malformed has a layout
-  pub exports-none : {A : Type 0} → x ≡ Malformed → malformed m ≡ false → A
-  unfolding malformed
-  exports-none f h = not-both refl (rw (← e, f) at h)
+  pub exports-listed : {n : ℕ} → n ≡ countAt m (l .exports) →
+      (n ≡ length (exportsOf m)) × (hashesFrom m Export n (l .exports + 4) ≡ exportHashes (exportsOf m)) ×
+      (n ≤ exportsSize .most)
+  unfolding exportsOf
+  exports-listed g =
+      shape-laid m l e λ metadata extensions laid.
+      rw (g, e) (
+        export-length m (l .exports) (laid .exports),
+        count-hashes m (l .exports) (laid .exports),
+        count-few m (l .exports) (laid .exports),
+      )

@@ -1,11 +1,12 @@
 // Writes the slots of the exports.
 ghost use mathlib.Core.Path.{_≡_};
-ghost use mathlib.Core.Bool.{false};
 ghost use mathlib.Core.List.{_++_};
 ghost use Prim.Native.Nat.{_≤_};
 ghost use lib.ListN.{length, drop};
 ghost use Rattle.sizes.specs.Sizes.{exportsSize};
-ghost use Rattle.manifest.specs.Judged.{malformed, exportsOf};
+ghost use Rattle.manifest_shape.specs.declared.Manifest.the-variants.{Shape};
+ghost use Rattle.manifest_shape.specs.Shape.{manifestOf};
+ghost use Rattle.manifest.specs.Judged.{exportsOf};
 ghost use Rattle.nodes.specs.Records.{nodesOf};
 ghost use Rattle.bundle.specs.References.{exportHashes, hashesFrom};
 ghost use Rattle.loader.specs.Written.{slotNamed, slotsNamed};
@@ -15,32 +16,27 @@ use bundle::references::Reference;
 use bundle::references::reference_end;
 use bundle::references::reference_hash;
 use manifest::content::count_at;
-use manifest_shape::Manifest;
+use manifest_shape::Layout;
 use manifest_shape::parts::Parsed;
 use nodes::find::find_record;
 use wire::Found;
 
-// How many exports a manifest section lists, and where they stand.
+// How many exports a manifest section lists, and where they stand: behind their count, by its layout.
 pub struct Listed {
     pub count: u64,
     pub at: usize,
 }
 
-pub(crate) fn list_exports(m: &[u8]) -> Listed
-    requires { ⌜ malformed (now m) ≡ false ⌝ }
+pub(crate) fn list_exports(m: &[u8], l: Layout) -> Listed
+    requires { ⌜ manifestOf (now m) ≡ Shape l ⌝ }
     ensures { λ r. ⌜ (r .count ≡ length (exportsOf (now (m .entry))))
         × (hashesFrom (now (m .entry)) Reference.Export (r .count) (r .at) ≡ exportHashes (exportsOf (now (m .entry))))
         × (r .count ≤ exportsSize .most) ⌝ }
 {
-    match manifest_shape::read(m) {
-        Manifest::Shape(l) => {
-            let at = l.exports;
-            Listed {
-                count: count_at(m, at),
-                at: at + 4,
-            }
-        }
-        Manifest::Malformed => Listed { count: 0, at: 0 },
+    let at = l.exports;
+    Listed {
+        count: count_at(m, at),
+        at: at + 4,
     }
 }
 

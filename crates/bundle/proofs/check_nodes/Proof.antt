@@ -109,7 +109,7 @@ circular-requires c κs =
     let at1 = filled .before .before .before in
     let formed = sym (at1 .before .shaped .ensures) ∙ not-false _ (at1 .if1 .left) in (
       starts-filled _ (filled .before .before .count .ensures) formed _ _ (filled .fill-starts .ensures),
-      at1 .before .before .before .before .before .before .pre,
+      at1 .before .before .before .before .before .before .pre .1,
     )
 
 same-length : tie.Need-same-length
