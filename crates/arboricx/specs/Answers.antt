@@ -1,7 +1,7 @@
 -- The words that C gets of each answer, in the order of include/arboricx.h.
-use Prim.Native.Nat.{ℕ}
+use Prim.Native.Nat.{ℕ, suc, _-_, _^_}
 use mathlib.Core.List.{List, [], _∷_}
-use lib.IntN.{ℤ, natAbs}
+use lib.IntN.{ℤ, pos, negsuc}
 use Rattle.loader.specs.declared.LoadAnswer.{LoadAnswer}
 use Rattle.loader.specs.Answer as load
 use Rattle.engine.specs.declared.RunAnswer.{RunAnswer}
@@ -14,9 +14,10 @@ use Rattle.bundle.specs.Exports as exports
 abbrev pub loadWords : LoadAnswer → List ℕ
 loadWords a = load.numbers a .number ∷ load.numbers a .nodes ∷ load.numbers a .exports ∷ []
 
--- a slot that was answered, which is never negative (SlotsNamed of engine)
+-- a slot as the word that C reads; none that is answered is negative (SlotsNamed of engine), and one that was would stay so as int32_t
 abbrev pub slotWord : ℤ → ℕ
-slotWord = natAbs
+slotWord (pos i) = i
+slotWord (negsuc i) = 2 ^ 32 - suc i
 
 -- number; result slot or f; x; steps; used count; jobs waiting
 abbrev pub runWords : RunAnswer → List ℕ

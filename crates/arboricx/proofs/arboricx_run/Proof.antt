@@ -1,6 +1,6 @@
 -- The six words of each answer; its slots are used ones, so that they are words.
 use Rattle.table.proofs.Signed.{as-passed}
-use Rattle.arboricx.proofs.Slots.{as-answered, slot-cast}
+use Rattle.arboricx.proofs.Slots.{slot-cast, slot-word}
 use Rattle.arboricx.proofs.Answers.{run-left, run-named}
 use borrow.Author.Needs.{needs}
 use Rattle.arboricx.proofs.arboricx_run.Statement.{statement}
@@ -60,7 +60,7 @@ returns-2 c =
     let told = c .before .before .slot .given .1 in
     let e = rw (as-passed _ (fits .base), as-passed _ (fits .f), as-passed _ (fits .x)) at (answered .run .ensures) in
     let named = run-named _ _ _ _ _ _ _ e told in
-    rw (as-answered (named .0) (named .1)) (run-left e told)
+    rw (slot-word (named .0) (named .1)) (run-left e told)
 
 same-length-5 : tie.Need-same-length-5
 same-length-5 c = search needs
@@ -75,7 +75,7 @@ returns-3 c =
     let told = c .before .before .number2 .given .1 in
     let e = rw (as-passed _ (fits .base), as-passed _ (fits .f), as-passed _ (fits .x)) at (answered .run .ensures) in
     let named = run-named _ _ _ _ _ _ _ e told in
-    rw (as-answered (named .0) (named .1), as-answered (named .0) (named .2)) (run-left e told)
+    rw (slot-word (named .0) (named .1), slot-word (named .0) (named .2)) (run-left e told)
 
 pub arboricx-run-spec : {M : Type 1} → statement M
 arboricx-run-spec =
