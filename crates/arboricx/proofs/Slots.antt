@@ -9,10 +9,10 @@ use mir.Syntax.{w32}
 use mir.Val.{Fits, SFits, toZ, ofZ}
 use Rattle.table.specs.Limits.{maxSlots}
 use Rattle.table.proofs.Signed.{as-passed}
-use Rattle.engine.specs.Named.{Among}
+use Rattle.engine.specs.Named.{UsedSlot}
 use Rattle.arboricx.specs.Answers.{slotWord}
 
-module _ {used : ℕ} {z : ℤ} (most : used ≤ maxSlots) (among : Among used z) where
+module _ {used : ℕ} {z : ℤ} (most : used ≤ maxSlots) (among : UsedSlot used z) where
   fits : SFits w32 z
   fits = subst (SFits w32) (sym (among .1)) (record { sfits = omega (arith, among .2, most) })
 

@@ -9,13 +9,13 @@ use Rattle.engine.specs.declared.RunAnswer.the-variants.{Refused, Done, 
 use Rattle.engine.specs.Run.{ran, run}
 
 -- a number names one of the used slots
-abbrev pub Among : ℕ → ℤ → Type 0
-Among used z = (i : ℕ) × (z ≡ pos i) × (i < used)
+abbrev pub UsedSlot : ℕ → ℤ → Type 0
+UsedSlot used z = (i : ℕ) × (z ≡ pos i) × (i < used)
 
 abbrev pub Named : RunAnswer → Type 0
 Named (Refused n) = Unit {0}
-Named (Done slot steps used) = (used ≤ maxSlots) × Among used slot
-Named (Stopped n f x steps used waiting) = (used ≤ maxSlots) × Among used f × Among used x
+Named (Done slot steps used) = (used ≤ maxSlots) × UsedSlot used slot
+Named (Stopped n f x steps used waiting) = (used ≤ maxSlots) × UsedSlot used f × UsedSlot used x
 
 -- Every slot that a run answers is a used one, so that it may be handed back as f or x.
 abbrev pub SlotsNamed : Type 0
