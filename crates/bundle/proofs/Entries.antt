@@ -50,25 +50,27 @@ module _ (file : List ℕ) (n p : ℕ) (h : 0 < n) {e : Entry} (g : e ≡ entryA
   unfolding someFaulty someOf
   faulty-next fault f t = rw (entries-more file n p h g, ← f, t)
 
-  pub counted-here : (kind seen : ℕ) → e .kind ≡ kind →
+-- a turn of a search for a type; k is that of the first
+module _ (file : List ℕ) (n p : ℕ) (h : 0 < n) {k : ℕ} (g : k ≡ entryAt file p .kind) where
+  pub counted-here : (kind seen : ℕ) → k ≡ kind →
       seen + occurrences kind (entriesFrom file n p) ≡
       (seen + 1) + occurrences kind (entriesFrom file (n - 1) (p + entryBytes))
   unfolding occurrences
-  counted-here kind seen t = rw (entries-more file n p h g, eq-eqb (e .kind) kind t) (omega arith)
+  counted-here kind seen t = rw (entries-more file n p h refl, ← g, eq-eqb k kind t) (omega arith)
 
-  pub counted-next : (kind seen : ℕ) → (e .kind ≡ kind → ⊥) →
+  pub counted-next : (kind seen : ℕ) → (k ≡ kind → ⊥) →
       seen + occurrences kind (entriesFrom file n p) ≡ seen + occurrences kind (entriesFrom file (n - 1) (p + entryBytes))
   unfolding occurrences
-  counted-next kind seen t = rw (entries-more file n p h g, ne-eqb (e .kind) kind t)
+  counted-next kind seen t = rw (entries-more file n p h refl, ← g, ne-eqb k kind t)
 
-  pub entry-here : (kind : ℕ) → e .kind ≡ kind → entryOf kind (entriesFrom file n p) ≡ e
+  pub entry-here : (kind : ℕ) → k ≡ kind → entryOf kind (entriesFrom file n p) ≡ entryAt file p
   unfolding entryOf
-  entry-here kind t = rw (entries-more file n p h g, eq-eqb (e .kind) kind t)
+  entry-here kind t = rw (entries-more file n p h refl, ← g, eq-eqb k kind t)
 
-  pub entry-next : (kind : ℕ) → (e .kind ≡ kind → ⊥) →
+  pub entry-next : (kind : ℕ) → (k ≡ kind → ⊥) →
       entryOf kind (entriesFrom file n p) ≡ entryOf kind (entriesFrom file (n - 1) (p + entryBytes))
   unfolding entryOf
-  entry-next kind t = rw (entries-more file n p h g, ne-eqb (e .kind) kind t)
+  entry-next kind t = rw (entries-more file n p h refl, ← g, ne-eqb k kind t)
 
 -- behind the last entry
 module _ (file : List ℕ) (n p : ℕ) (h : n ≤ 0) where

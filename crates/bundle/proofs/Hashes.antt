@@ -8,9 +8,8 @@ use lib.ListN.{length}
 use Rattle.wire.specs.Wire.{numberAt, indexOf, found}
 use Rattle.manifest_shape.specs.declared.parts.Parsed.{Parsed}
 use Rattle.manifest_shape.specs.declared.parts.Parsed.the-variants.{To, Bad}
-use Rattle.manifest_shape.specs.Shape.{rootEnd, exportEnd}
 use Rattle.manifest.specs.Content.{Root as RootRecord, Export as ExportRecord}
-use Rattle.manifest.specs.Content.{rootAt, exportAt, rootsAt, exportsAt}
+use Rattle.manifest.specs.Content.{rootPast, exportPast, rootAt, exportAt, rootsAt, exportsAt}
 use Rattle.manifest.proofs.Lists.{list-step, list-stop, list-none, counted-all}
 use Rattle.nodes.specs.Records.{nodesOf, hashes, lacks}
 use Rattle.bundle.specs.declared.references.Reference.{Reference}
@@ -41,13 +40,13 @@ module _ (m : List ℕ) (at : ℕ) where
   pub hashes-roots : hashesAt m Root at ≡ rootHashes (rootsAt m at)
   unfolding hashesAt referenceEnd referenceHash rootHashes rootsAt
   hashes-roots =
-      counted-all (λ (r : RootRecord). r .hash) rootHashes refl (λ x xs. refl) (rootEnd m) (rootAt m) (numberAt 4 m at)
+      counted-all (λ (r : RootRecord). r .hash) rootHashes refl (λ x xs. refl) (rootPast m) (rootAt m) (numberAt 4 m at)
       (at + 4)
 
   pub hashes-exports : hashesAt m Export at ≡ exportHashes (exportsAt m at)
   unfolding hashesAt referenceEnd referenceHash exportHashes exportsAt
   hashes-exports =
-      counted-all (λ (e : ExportRecord). e .hash) exportHashes refl (λ x xs. refl) (exportEnd m) (exportAt m)
+      counted-all (λ (e : ExportRecord). e .hash) exportHashes refl (λ x xs. refl) (exportPast m) (exportAt m)
       (numberAt 4 m at) (at + 4)
 
 pub export-hashes-length : (es : List ExportRecord) → length (exportHashes es) ≡ length es

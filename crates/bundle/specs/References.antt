@@ -5,8 +5,8 @@ use mathlib.Core.Bool.{Bool}
 use Rattle.wire.specs.Wire.{numberAt, onNumber, anyOf}
 use Rattle.manifest_shape.specs.declared.parts.Parsed.{Parsed}
 use Rattle.manifest_shape.specs.declared.parts.Parsed.the-variants.{To}
-use Rattle.manifest_shape.specs.Shape.{stringEnd, rootEnd, exportEnd}
-use Rattle.manifest.specs.Content.{Root as RootRecord, Export as ExportRecord, hashAt, listFrom}
+use Rattle.manifest_shape.specs.Shape.{sizedEnd}
+use Rattle.manifest.specs.Content.{Root as RootRecord, Export as ExportRecord, rootPast, exportPast, hashAt, listFrom}
 use Rattle.manifest.specs.Judged.{rootsOf, exportsOf}
 use Rattle.nodes.specs.Records.{lacks, nodesOf}
 use Rattle.bundle.specs.declared.references.Reference.{Reference}
@@ -27,12 +27,12 @@ unresolved m s =
 
 -- the same hashes by position, as the code finds them: where a root or export ends, and its hash
 unfoldable pub referenceEnd : List ℕ → Reference → ℕ → Parsed
-referenceEnd m Root at = rootEnd m at
-referenceEnd m Export at = exportEnd m at
+referenceEnd m Root at = rootPast m at
+referenceEnd m Export at = exportPast m at
 
 unfoldable pub referenceHash : List ℕ → Reference → ℕ → List ℕ
 referenceHash m Root at = hashAt m (To at)
-referenceHash m Export at = hashAt m (stringEnd m at)
+referenceHash m Export at = hashAt m (sizedEnd m at)
 
 abbrev pub hashesFrom : List ℕ → Reference → ℕ → ℕ → List (List ℕ)
 hashesFrom m kind n at = listFrom (referenceEnd m kind) (referenceHash m kind) n at

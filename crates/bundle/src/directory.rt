@@ -41,12 +41,19 @@ pub enum Fault {
     Altered,
 }
 
+// The type of the entry at a position: a search for a type reads no more of an entry.
+fn kind_at(file: &[u8], at: usize) -> u64
+    ensures { λ r. ⌜ r ≡ entryAt (now (file .entry)) at .kind ⌝ }
+{
+    wire::u32_at(file, at).or_zero()
+}
+
 fn entry_at(file: &[u8], at: usize) -> Entry
     requires { ⌜ at + entryBytes ≤ length (now file) ⌝ }
     ensures { λ r. ⌜ r ≡ entryAt (now (file .entry)) at ⌝ }
 {
     Entry {
-        kind: wire::u32_at(file, at).or_zero(),
+        kind: kind_at(file, at),
         flags: wire::u16_at(file, at + 6).or_zero(),
         compression: wire::u16_at(file, at + 8).or_zero(),
         algorithm: wire::u16_at(file, at + 10).or_zero(),
@@ -140,8 +147,7 @@ fn occurrences(file: &[u8], kind: u64, n: u64, at: usize) -> u64
     let mut left = n;
     let mut seen: u64 = 0;
     while 0 < left {
-        let e = entry_at(file, p);
-        if e.kind == kind {
+        if kind_at(file, p) == kind {
             seen += 1;
         }
         p += ENTRY;
@@ -158,9 +164,8 @@ fn entry_from(file: &[u8], kind: u64, n: u64, at: usize) -> Entry
     let mut p = at;
     let mut left = n;
     while 0 < left {
-        let e = entry_at(file, p);
-        if e.kind == kind {
-            return e;
+        if kind_at(file, p) == kind {
+            return entry_at(file, p);
         }
         p += ENTRY;
         left -= 1;

@@ -4,12 +4,12 @@ ghost use Rattle.manifest_shape.specs.declared.Manifest.the-variants.{Shape};
 ghost use Rattle.manifest_shape.specs.Shape.{manifestOf};
 ghost use Rattle.nodes.specs.Records.{lacks, nodesOf};
 ghost use Rattle.bundle.specs.References.{referenceEnd, referenceHash, hashesFrom, hashesAt, unresolved};
+use manifest::content::export_past;
 use manifest::content::hash_at;
+use manifest::content::root_past;
 use manifest_shape::Layout;
 use manifest_shape::parts::Parsed;
-use manifest_shape::parts::export_end;
-use manifest_shape::parts::root_end;
-use manifest_shape::parts::string_end;
+use manifest_shape::parts::sized_end;
 use wire::Num;
 
 // What names a hash.
@@ -23,8 +23,8 @@ pub fn reference_end(m: &[u8], kind: Reference, at: usize) -> Parsed
     ensures { λ r. ⌜ r ≡ referenceEnd (now (m .entry)) kind at ⌝ }
 {
     match kind {
-        Reference::Root => root_end(m, at),
-        Reference::Export => export_end(m, at),
+        Reference::Root => root_past(m, at),
+        Reference::Export => export_past(m, at),
     }
 }
 
@@ -34,7 +34,7 @@ pub fn reference_hash(m: &[u8], kind: Reference, at: usize) -> &[u8]
 {
     match kind {
         Reference::Root => hash_at(m, Parsed::To(at)),
-        Reference::Export => hash_at(m, string_end(m, at)),
+        Reference::Export => hash_at(m, sized_end(m, at)),
     }
 }
 

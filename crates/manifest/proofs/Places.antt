@@ -14,8 +14,8 @@ use Rattle.manifest_shape.specs.declared.parts.Parsed.{Parsed}
 use Rattle.manifest_shape.specs.declared.parts.Parsed.the-variants.{To, Bad}
 use Rattle.manifest_shape.specs.declared.Manifest.{Manifest}
 use Rattle.manifest_shape.specs.declared.Manifest.the-variants.{Shape, Malformed}
-use Rattle.manifest_shape.specs.Shape.{bytesEnd, textEnd, stringEnd, exportEnd, manifestOf}
-use Rattle.manifest.specs.Content.{textAt, listFrom, countAt, exportsFrom, placesFrom, exportsAt, placesAt, names}
+use Rattle.manifest_shape.specs.Shape.{bytesEnd, sizedEnd, manifestOf}
+use Rattle.manifest.specs.Content.{exportPast, textAt, listFrom, countAt, exportsFrom, placesFrom, exportsAt, placesAt, names}
 use Rattle.manifest.specs.Judged.{exportsOf, exportPlace}
 
 bad-to : {A : Type 0} {q : ℕ} → Bad ≡ To q → A
@@ -35,28 +35,20 @@ module _ (s : List ℕ) where
       go (At end) f = end-at s at n refl f .1
       go Past f = bad-to (rw f at e)
 
-  text-inside : (at n : ℕ) {q : ℕ} → textEnd s at n ≡ To q → at + n ≤ length s
-  unfolding textEnd
-  text-inside at n {q} e = go (bytesEnd s at n) refl
-    where
-      go : (x : Parsed) → bytesEnd s at n ≡ x → at + n ≤ length s
-      go (To end) f = bytes-inside at n f
-      go Bad f = bad-to (rw f at e)
-
-  string-text : (p : ℕ) {q : ℕ} → stringEnd s p ≡ To q → Text s p
-  unfolding stringEnd textAt countAt
+  string-text : (p : ℕ) {q : ℕ} → sizedEnd s p ≡ To q → Text s p
+  unfolding sizedEnd textAt countAt
   string-text p {q} e = go (numberAt 4 s p) refl
     where
       go : (x : Num) → numberAt 4 s p ≡ x → Text s p
       go (Value n) f =
-          record { is = rw f; inside = rw f (text-inside (p + 4) n (rw f at e)) }
+          record { is = rw f; inside = rw f (bytes-inside (p + 4) n (rw f at e)) }
       go Short f = bad-to (rw f at e)
 
-  export-text : (p : ℕ) {q : ℕ} → exportEnd s p ≡ To q → Text s p
-  unfolding exportEnd
-  export-text p {q} e = go (stringEnd s p) refl
+  export-text : (p : ℕ) {q : ℕ} → exportPast s p ≡ To q → Text s p
+  unfolding exportPast
+  export-text p {q} e = go (sizedEnd s p) refl
     where
-      go : (x : Parsed) → stringEnd s p ≡ x → Text s p
+      go : (x : Parsed) → sizedEnd s p ≡ x → Text s p
       go (To end) f = string-text p f
       go Bad f = bad-to (rw f at e)
 
@@ -64,9 +56,9 @@ module _ (s : List ℕ) where
   names-there : (n at i : ℕ) → getD (names (exportsFrom s n at)) i [] ≡ textAt s (getD (placesFrom s n at) i Bad)
   unfolding names listFrom textAt
   names-there zero at i = refl
-  names-there (suc n) at i = go (exportEnd s at) refl i (names-there n)
+  names-there (suc n) at i = go (exportPast s at) refl i (names-there n)
     where
-      go : (x : Parsed) → exportEnd s at ≡ x → (k : ℕ) →
+      go : (x : Parsed) → exportPast s at ≡ x → (k : ℕ) →
           ((q j : ℕ) → getD (names (exportsFrom s n q)) j [] ≡ textAt s (getD (placesFrom s n q) j Bad)) →
           getD (names (exportsFrom s (suc n) at)) k [] ≡ textAt s (getD (placesFrom s (suc n) at) k Bad)
       go (To q) f zero later = rw f
@@ -76,9 +68,9 @@ module _ (s : List ℕ) where
   place-there : (n at i : ℕ) {p : ℕ} → getD (placesFrom s n at) i Bad ≡ To p → Text s p
   unfolding listFrom
   place-there zero at i e = bad-to e
-  place-there (suc n) at i {p} e = go (exportEnd s at) refl i e (λ q j h. place-there n q j h)
+  place-there (suc n) at i {p} e = go (exportPast s at) refl i e (λ q j h. place-there n q j h)
     where
-      go : (x : Parsed) → exportEnd s at ≡ x → (k : ℕ) → getD (placesFrom s (suc n) at) k Bad ≡ To p →
+      go : (x : Parsed) → exportPast s at ≡ x → (k : ℕ) → getD (placesFrom s (suc n) at) k Bad ≡ To p →
           ((q j : ℕ) → getD (placesFrom s n q) j Bad ≡ To p → Text s p) → Text s p
       go (To q) f zero g later = let z : at ≡ p = cc in rw (← z) (export-text at f)
       go (To q) f (suc k) g later = later q k (rw f at g)

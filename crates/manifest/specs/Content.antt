@@ -1,10 +1,18 @@
--- What stands in a manifest: texts, hashes, roots and exports, read at positions of the section.
+-- What stands in a manifest: texts, hashes, roots and exports, read at positions of the section. Strings are stepped over by their
+-- lengths: that they are text is judged before anything is read (12).
 use Prim.Native.Nat.{ℕ, zero, suc, _+_}
 use mathlib.Core.List.{List, [], _∷_}
 use Rattle.wire.specs.Wire.{numberAt, span, onNumber, orZero}
 use Rattle.manifest_shape.specs.declared.parts.Parsed.{Parsed}
 use Rattle.manifest_shape.specs.declared.parts.Parsed.the-variants.{To, Bad}
-use Rattle.manifest_shape.specs.Shape.{onParsed, andThen, bytesEnd, stringEnd, rootEnd, exportEnd}
+use Rattle.manifest_shape.specs.Shape.{onParsed, andThen, bytesEnd, sizedEnd}
+
+-- behind a root, and behind an export
+unfoldable pub rootPast : List ℕ → ℕ → Parsed
+rootPast s at = andThen (bytesEnd s at 32) (λ p. sizedEnd s p)
+
+unfoldable pub exportPast : List ℕ → ℕ → Parsed
+exportPast s at = andThen (sizedEnd s at) (λ p. andThen (rootPast s p) (λ q. sizedEnd s q))
 
 pub record Root : Type 0 where
   pub hash : List ℕ
@@ -31,9 +39,9 @@ abbrev pub exportAt : List ℕ → ℕ → Export
 exportAt s at =
     record {
       name = textAt s (To at);
-      hash = hashAt s (stringEnd s at);
-      kind = textAt s (andThen (stringEnd s at) (λ p. bytesEnd s p 32));
-      abi = textAt s (andThen (stringEnd s at) (λ p. rootEnd s p));
+      hash = hashAt s (sizedEnd s at);
+      kind = textAt s (andThen (sizedEnd s at) (λ p. bytesEnd s p 32));
+      abi = textAt s (andThen (sizedEnd s at) (λ p. rootPast s p));
     }
 
 -- n things, one after the other from a position on: where one ends, and what stands there
@@ -42,17 +50,17 @@ listFrom end read zero at = []
 listFrom end read (suc n) at = onParsed (end at) (λ next. read at ∷ listFrom end read n next) []
 
 abbrev pub textsFrom : List ℕ → ℕ → ℕ → List (List ℕ)
-textsFrom s n at = listFrom (stringEnd s) (λ p. textAt s (To p)) n at
+textsFrom s n at = listFrom (sizedEnd s) (λ p. textAt s (To p)) n at
 
 abbrev pub rootsFrom : List ℕ → ℕ → ℕ → List Root
-rootsFrom s n at = listFrom (rootEnd s) (rootAt s) n at
+rootsFrom s n at = listFrom (rootPast s) (rootAt s) n at
 
 abbrev pub exportsFrom : List ℕ → ℕ → ℕ → List Export
-exportsFrom s n at = listFrom (exportEnd s) (exportAt s) n at
+exportsFrom s n at = listFrom (exportPast s) (exportAt s) n at
 
 -- the positions of n exports
 abbrev pub placesFrom : List ℕ → ℕ → ℕ → List Parsed
-placesFrom s n at = listFrom (exportEnd s) (λ p. To p) n at
+placesFrom s n at = listFrom (exportPast s) (λ p. To p) n at
 
 -- the count that stands at a position
 unfoldable pub countAt : List ℕ → ℕ → ℕ

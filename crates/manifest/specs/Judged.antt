@@ -16,7 +16,7 @@ use Rattle.manifest_shape.specs.declared.Manifest.the-variants.{Shape, Malforme
 use Rattle.manifest.specs.declared.strings.Walk.{Walk}
 use Rattle.manifest.specs.declared.exports.Fault.{Fault}
 use Rattle.manifest.specs.declared.exports.Fault.the-variants.{Abi, NameSize, NameTwice}
-use Rattle.manifest_shape.specs.Shape.{andThen, stringEnd, manifestOf}
+use Rattle.manifest_shape.specs.Shape.{andThen, sizedEnd, manifestOf}
 use Rattle.manifest.specs.Content.{Root, Export, textAt, countAt, rootsAt, exportsAt, placesAt, names}
 
 -- what a string has to be
@@ -49,7 +49,7 @@ meets t anyText = true
 unfoldable pub past : List ℕ → Walk → Wanted → Walk
 past s walk wanted =
     record {
-      at = andThen (walk .at) (λ p. stringEnd s p);
+      at = andThen (walk .at) (λ p. sizedEnd s p);
       same = cond (walk .same) (meets (textAt s (walk .at)) wanted) false;
     }
 

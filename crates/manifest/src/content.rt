@@ -1,8 +1,33 @@
 // What stands in a manifest, as parts of the section.
 ghost use mathlib.Core.Path.{_≡_};
-ghost use Rattle.manifest.specs.Content.{textAt, hashAt, countAt};
+ghost use Rattle.manifest.specs.Content.{rootPast, exportPast, textAt, hashAt, countAt};
 use manifest_shape::parts::Parsed;
+use manifest_shape::parts::bytes_end;
+use manifest_shape::parts::sized_end;
 use wire::Num;
+
+// Behind the root at a position, by its lengths alone.
+pub fn root_past(s: &[u8], at: usize) -> Parsed
+    ensures { λ r. ⌜ r ≡ rootPast (now (s .entry)) at ⌝ }
+{
+    match bytes_end(s, at, 32) {
+        Parsed::To(p) => sized_end(s, p),
+        Parsed::Bad => Parsed::Bad,
+    }
+}
+
+// Behind the export at a position, by its lengths alone.
+pub fn export_past(s: &[u8], at: usize) -> Parsed
+    ensures { λ r. ⌜ r ≡ exportPast (now (s .entry)) at ⌝ }
+{
+    match sized_end(s, at) {
+        Parsed::To(p) => match root_past(s, p) {
+            Parsed::To(q) => sized_end(s, q),
+            Parsed::Bad => Parsed::Bad,
+        },
+        Parsed::Bad => Parsed::Bad,
+    }
+}
 
 // The text of the string that stands at a position.
 pub fn text_at(s: &[u8], p: Parsed) -> &[u8]

@@ -2,14 +2,14 @@
 ghost use mathlib.Core.Path.{_≡_};
 ghost use lib.ListN.{getD};
 ghost use Rattle.wire.specs.Wire.{indexOf, found};
-ghost use Rattle.manifest_shape.specs.Shape.{andThen, stringEnd, rootEnd};
-ghost use Rattle.manifest.specs.Content.{textAt, exportAt, exportsFrom, exportsAt, placesFrom, placesAt, names};
+ghost use Rattle.manifest_shape.specs.Shape.{andThen, sizedEnd};
+ghost use Rattle.manifest.specs.Content.{rootPast, textAt, exportAt, exportsFrom, exportsAt, placesFrom, placesAt, names};
 ghost use Rattle.manifest.specs.Judged.{faulty, someFaulty};
+use crate::content::export_past;
+use crate::content::root_past;
 use crate::content::text_at;
 use manifest_shape::parts::Parsed;
-use manifest_shape::parts::export_end;
-use manifest_shape::parts::root_end;
-use manifest_shape::parts::string_end;
+use manifest_shape::parts::sized_end;
 use sizes::Size;
 use wire::Found;
 use wire::Num;
@@ -23,10 +23,10 @@ pub enum Fault {
 
 // The abi string of the export at a position.
 fn abi_at(s: &[u8], at: usize) -> &[u8]
-    ensures { λ r. ⌜ now r ≡ textAt (now (s .entry)) (andThen (stringEnd (now (s .entry)) at) (rootEnd (now (s .entry)))) ⌝ }
+    ensures { λ r. ⌜ now r ≡ textAt (now (s .entry)) (andThen (sizedEnd (now (s .entry)) at) (rootPast (now (s .entry)))) ⌝ }
 {
-    match string_end(s, at) {
-        Parsed::To(p) => text_at(s, root_end(s, p)),
+    match sized_end(s, at) {
+        Parsed::To(p) => text_at(s, root_past(s, p)),
         Parsed::Bad => &s[..0],
     }
 }
@@ -38,7 +38,7 @@ fn find_from(s: &[u8], name: &[u8], n: u64, at: usize) -> Found
     let mut p = at;
     let mut i: u64 = 0;
     while i < n {
-        match export_end(s, p) {
+        match export_past(s, p) {
             Parsed::To(q) => {
                 if wire::same_bytes(text_at(s, Parsed::To(p)), name) {
                     return Found::Index(i as usize);
@@ -82,7 +82,7 @@ fn some_faulty_from(s: &[u8], fault: Fault, n: u64, at: usize) -> bool
     let mut p = at;
     let mut left = n;
     while 0 < left {
-        match export_end(s, p) {
+        match export_past(s, p) {
             Parsed::To(q) => {
                 left -= 1;
                 if faulty(s, fault, p, left, q) {
@@ -125,7 +125,7 @@ fn place_from(s: &[u8], n: u64, at: usize, i: u64) -> Parsed
     let mut p = at;
     let mut k: u64 = 0;
     while k < n {
-        match export_end(s, p) {
+        match export_past(s, p) {
             Parsed::To(q) => {
                 if k == i {
                     return Parsed::To(p);

@@ -1,10 +1,10 @@
 // The nine strings of a manifest.
 ghost use mathlib.Core.Path.{_≡_};
-ghost use Rattle.manifest_shape.specs.Shape.{andThen, stringEnd};
+ghost use Rattle.manifest_shape.specs.Shape.{andThen, sizedEnd};
 ghost use Rattle.manifest.specs.Judged.{past, stringsAgree, exactly, anyText};
 use crate::content::text_at;
 use manifest_shape::parts::Parsed;
-use manifest_shape::parts::string_end;
+use manifest_shape::parts::sized_end;
 
 // Behind some strings, and whether all of them were as wanted.
 pub struct Walk {
@@ -13,10 +13,10 @@ pub struct Walk {
 }
 
 fn string_past(s: &[u8], p: Parsed) -> Parsed
-    ensures { λ r. ⌜ r ≡ andThen p (stringEnd (now (s .entry))) ⌝ }
+    ensures { λ r. ⌜ r ≡ andThen p (sizedEnd (now (s .entry))) ⌝ }
 {
     match p {
-        Parsed::To(at) => string_end(s, at),
+        Parsed::To(at) => sized_end(s, at),
         Parsed::Bad => Parsed::Bad,
     }
 }

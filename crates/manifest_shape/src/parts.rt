@@ -77,7 +77,7 @@ pub fn export_end(s: &[u8], at: usize) -> Parsed
 }
 
 // A u32 length and that many bytes.
-fn sized_end(s: &[u8], at: usize) -> Parsed
+pub fn sized_end(s: &[u8], at: usize) -> Parsed
     ensures { λ r. ⌜ r ≡ sizedEnd (now (s .entry)) at ⌝ }
 {
     match wire::u32_at(s, at) {

@@ -15,15 +15,16 @@ use Rattle.manifest_shape.specs.declared.parts.Parsed.{Parsed}
 use Rattle.manifest_shape.specs.declared.parts.Parsed.the-variants.{To}
 use Rattle.manifest_shape.specs.declared.parts.Kind.{Kind}
 use Rattle.manifest_shape.specs.declared.parts.Kind.the-variants.{Text, Root, Export, Field}
-use Rattle.manifest_shape.specs.Shape.{stringEnd, fieldEnd, itemEnd, itemsEnd, countedEnd}
+use Rattle.manifest_shape.specs.Shape.{sizedEnd, fieldEnd, itemEnd, itemsEnd, countedEnd}
 use Rattle.manifest.specs.Content.{textAt, countAt, listFrom, rootsAt, exportsAt}
 use Rattle.soundness.specs.ManifestGrammar.{IsString, IsRoot, IsExport, IsField, IsCounted, counted}
 use Rattle.soundness.proofs.ManifestParses.{Parses, then-to, number-to, cond-to}
+use Rattle.soundness.proofs.ManifestPieces.{string-past, root-past, export-past}
 use Rattle.soundness.proofs.ManifestPieces.{string-parses, root-parses, export-parses, fieldAt, field-parses}
 
 -- the things behind the count that stands at a position
 abbrev pub countedAt : {A : Type 0} → List ℕ → (ℕ → Parsed) → (ℕ → A) → ℕ → List A
-countedAt s end read at = onNumber (numberAt 4 s at) (λ n. listFrom end read n (at + 4)) []
+countedAt s past read at = onNumber (numberAt 4 s at) (λ n. listFrom past read n (at + 4)) []
 
 -- where a count and its things end, the count is within its size, and the things end there
 pub counted-number : {A : Type 0} (s : List ℕ) (kind : Kind) (size : Size) (at : ℕ) {e : ℕ} → countedEnd s kind size at ≡ To e →
@@ -35,40 +36,41 @@ counted-number s kind size at g f =
     let (l, u) = within-exactly size n .0 w in
     f n h l u m
 
-module _ {A : Type 0} (s : List ℕ) (kind : Kind) (read : ℕ → A) (Is : A → List ℕ → Type 0)
-    (parses : Parses s (itemEnd s kind) read Is) where
+-- `past` is where the reader goes on: where the thing ends
+module _ {A : Type 0} (s : List ℕ) (kind : Kind) (past : ℕ → Parsed) (read : ℕ → A) (Is : A → List ℕ → Type 0)
+    (ends : (at e : ℕ) → itemEnd s kind at ≡ To e → past at ≡ To e) (parses : Parses s (itemEnd s kind) read Is) where
   pub items-forth : (n : ℕ) {at e : ℕ} → at ≤ length s → itemsEnd s kind n at ≡ To e →
-      (b : List ℕ) × Reads s at e b × Sequence Is (listFrom (itemEnd s kind) read n at) b ×
-      (length (listFrom (itemEnd s kind) read n at) ≡ n)
+      (b : List ℕ) × Reads s at e b × Sequence Is (listFrom past read n at) b ×
+      (length (listFrom past read n at) ≡ n)
   unfolding itemsEnd listFrom
   items-forth zero {at} {e} l g = let q : at ≡ e = cc in ([], rw (← q) (reads-none s at l), none, refl)
   items-forth (suc n) {at} l g =
       then-to (itemEnd s kind at) _ g λ p h k.
       let (a, r, i) = parses .forth h in
       let (b, t, j, m) = items-forth n (r .fits) k in
-      (a ++ b, reads-join r t, rw h (next i j), rw h (ap suc m))
+      (a ++ b, reads-join r t, rw (ends at p h) (next i j), rw (ends at p h) (ap suc m))
 
   pub items-back : {xs : List A} {b : List ℕ} {at e : ℕ} → Reads s at e b → Sequence Is xs b →
-      (itemsEnd s kind (length xs) at ≡ To e) × (listFrom (itemEnd s kind) read (length xs) at ≡ xs)
+      (itemsEnd s kind (length xs) at ≡ To e) × (listFrom past read (length xs) at ≡ xs)
   unfolding itemsEnd listFrom
   items-back r none = (ap To (omega arith), refl)
   items-back r (next {a = a} i j) =
       let (p, t, u) = reads-split {b = a} r in
       let (g, h) = parses .back t i in
       let (k, m) = items-back u j in
-      (rw g k, rw (g, h, m))
+      (rw g k, rw (ends _ p g, h, m))
 
   counted-forth : (size : Size) {at e : ℕ} → countedEnd s kind size at ≡ To e →
-      (b : List ℕ) × Reads s at e b × IsCounted Is size (countedAt s (itemEnd s kind) read at) b
+      (b : List ℕ) × Reads s at e b × IsCounted Is size (countedAt s past read at) b
   counted-forth size {at} g =
       counted-number s kind size at g λ n h l u k.
       let (a, r, m) = number-reads s at 4 h in
       let (b, t, i, q) = items-forth n (r .fits) k in
-      let xs = listFrom (itemEnd s kind) read n (at + 4) in
+      let xs = listFrom past read n (at + 4) in
       (a ++ b, reads-join r t, rw h (counted {xs = xs} {n = a} (rw q m) (rw q l) (rw q u) i))
 
   counted-back : (size : Size) {at e : ℕ} {b : List ℕ} {xs : List A} → Reads s at e b → IsCounted Is size xs b →
-      (countedEnd s kind size at ≡ To e) × (countedAt s (itemEnd s kind) read at ≡ xs)
+      (countedEnd s kind size at ≡ To e) × (countedAt s past read at ≡ xs)
   unfolding countedEnd
   counted-back size {at} r (counted {xs = xs} m l u i) =
       let (p, a, t) = reads-split r in
@@ -77,12 +79,12 @@ module _ {A : Type 0} (s : List ℕ) (kind : Kind) (read : ℕ → A) (Is : A �
       (rw (k, within-exactly size (length xs) .1 (l, u)) g, rw k h)
 
   pub counted-parses : (size : Size) →
-      Parses s (countedEnd s kind size) (countedAt s (itemEnd s kind) read) (IsCounted Is size)
+      Parses s (countedEnd s kind size) (countedAt s past read) (IsCounted Is size)
   counted-parses size = record { forth = counted-forth size; back = counted-back size }
 
   -- the count is how many things are read
   pub counted-length : (size : Size) (at : ℕ) {e : ℕ} → countedEnd s kind size at ≡ To e →
-      countAt s at ≡ length (countedAt s (itemEnd s kind) read at)
+      countAt s at ≡ length (countedAt s past read at)
   unfolding countAt
   counted-length size at g =
       counted-number s kind size at g λ n h l u k.
@@ -95,29 +97,29 @@ module _ (s : List ℕ) where
   unfolding itemEnd
   text-kind = string-parses s
 
-  pub text-counted : Parses s (countedEnd s Text capabilitiesSize) (countedAt s (stringEnd s) (λ p. textAt s (To p)))
+  pub text-counted : Parses s (countedEnd s Text capabilitiesSize) (countedAt s (sizedEnd s) (λ p. textAt s (To p)))
       (IsCounted IsString capabilitiesSize)
   unfolding itemEnd
-  text-counted = counted-parses s Text _ _ (string-parses s) capabilitiesSize
+  text-counted = counted-parses s Text _ _ _ (string-past s) (string-parses s) capabilitiesSize
 
   pub root-counted : Parses s (countedEnd s Root rootsSize) (rootsAt s) (IsCounted IsRoot rootsSize)
   unfolding itemEnd rootsAt
-  root-counted = counted-parses s Root _ _ (root-parses s) rootsSize
+  root-counted = counted-parses s Root _ _ _ (root-past s) (root-parses s) rootsSize
 
   pub export-counted : Parses s (countedEnd s Export exportsSize) (exportsAt s) (IsCounted IsExport exportsSize)
   unfolding itemEnd exportsAt
-  export-counted = counted-parses s Export _ _ (export-parses s) exportsSize
+  export-counted = counted-parses s Export _ _ _ (export-past s) (export-parses s) exportsSize
 
   pub field-counted : Parses s (countedEnd s Field fieldsSize) (countedAt s (fieldEnd s) (fieldAt s))
       (IsCounted IsField fieldsSize)
   unfolding itemEnd
-  field-counted = counted-parses s Field _ _ (field-parses s) fieldsSize
+  field-counted = counted-parses s Field _ _ _ (λ at e g. g) (field-parses s) fieldsSize
 
   pub text-length : (at : ℕ) {e : ℕ} → countedEnd s Text capabilitiesSize at ≡ To e →
-      countAt s at ≡ length (countedAt s (stringEnd s) (λ p. textAt s (To p)) at)
+      countAt s at ≡ length (countedAt s (sizedEnd s) (λ p. textAt s (To p)) at)
   unfolding itemEnd
-  text-length at g = counted-length s Text _ _ (string-parses s) capabilitiesSize at g
+  text-length at g = counted-length s Text _ _ _ (string-past s) (string-parses s) capabilitiesSize at g
 
   pub export-length : (at : ℕ) {e : ℕ} → countedEnd s Export exportsSize at ≡ To e → countAt s at ≡ length (exportsAt s at)
   unfolding itemEnd exportsAt
-  export-length at g = counted-length s Export _ _ (export-parses s) exportsSize at g
+  export-length at g = counted-length s Export _ _ _ (export-past s) (export-parses s) exportsSize at g

@@ -19,7 +19,7 @@ use Rattle.manifest_shape.specs.declared.parts.Parsed.{Parsed}
 use Rattle.manifest_shape.specs.declared.parts.Parsed.the-variants.{To}
 use Rattle.manifest_shape.specs.Shape.{ifValid, bytesEnd, textEnd, stringEnd, rootEnd, exportEnd}
 use Rattle.manifest_shape.specs.Shape.{sizedEnd, fieldEnd, closureEnd}
-use Rattle.manifest.specs.Content.{Root, Export, textAt, hashAt, rootAt, exportAt}
+use Rattle.manifest.specs.Content.{Root, Export, rootPast, exportPast, textAt, hashAt, rootAt, exportAt}
 use Rattle.soundness.specs.ManifestGrammar.{Field, IsString, string, IsRoot, root, IsExport, export, IsField, field}
 use Rattle.soundness.proofs.ManifestParses.{Parses, not-to, to-same, then-to, number-to, cond-to, bytes-reads, reads-bytes}
 
@@ -82,6 +82,21 @@ module _ (s : List ℕ) where
   unfolding rootEnd
   root-to at g = then-to (bytesEnd s at 32) (stringEnd s) g
 
+  -- what ends somewhere ends there by its lengths alone too
+  pub string-past : (at e : ℕ) → stringEnd s at ≡ To e → sizedEnd s at ≡ To e
+  string-past at e g = string-sized s at g .0
+
+  pub root-past : (at e : ℕ) → rootEnd s at ≡ To e → rootPast s at ≡ To e
+  unfolding rootPast
+  root-past at e g = root-to at g λ p h k. rw h (string-past p e k)
+
+  pub export-past : (at e : ℕ) → exportEnd s at ≡ To e → exportPast s at ≡ To e
+  unfolding exportEnd exportPast
+  export-past at e g =
+      then-to (stringEnd s at) _ g λ p h i.
+      then-to (rootEnd s p) _ i λ q j k.
+      rw (string-past at p h, root-past p q j) (string-past q e k)
+
   root-forth : {at e : ℕ} → rootEnd s at ≡ To e → (b : List ℕ) × Reads s at e b × IsRoot (rootAt s at) b
   unfolding hashAt
   root-forth {at} g =
@@ -113,12 +128,12 @@ module _ (s : List ℕ) where
       let (c, r4, k) = string-forth h2 in (
         a ++ (span s p 32 ++ (b ++ c)),
         reads-join r1 (reads-join r2 (reads-join r3 r4)),
-        rw (g1, g2, g3) (export i l j k),
+        rw (string-past at p g1, root-past p q g2, g3) (export i l j k),
       )
 
   export-back : {at e : ℕ} {b : List ℕ} {x : Export} → Reads s at e b → IsExport x b →
       (exportEnd s at ≡ To e) × (exportAt s at ≡ x)
-  unfolding exportEnd rootEnd hashAt
+  unfolding exportEnd rootEnd rootPast hashAt
   export-back {at} r (export {h = n} i l j k) =
       let (p, a, t) = reads-split r in
       let (o, b, u) = reads-split {b = n} t in
@@ -127,7 +142,7 @@ module _ (s : List ℕ) where
       let (g2, h2) = reads-bytes s p 32 b l in
       let (g3, h3) = string-back c j in
       let (g4, h4) = string-back d k in
-      (rw (g1, g2, g3, g4), rw (h1, g1, h2, g2, h3, g3, h4))
+      (rw (g1, g2, g3, g4), rw (h1, string-past _ _ g1, h2, g2, h3, string-past _ _ g3, h4))
 
   pub export-parses : Parses s (exportEnd s) (exportAt s) IsExport
   export-parses = record { forth = export-forth; back = export-back }

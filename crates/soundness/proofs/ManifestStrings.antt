@@ -10,11 +10,12 @@ use Rattle.wire.proofs.Bytes.{same-sound, same-true, not-both}
 use Rattle.manifest_shape.specs.declared.parts.Parsed.{Parsed}
 use Rattle.manifest_shape.specs.declared.parts.Parsed.the-variants.{To}
 use Rattle.manifest_shape.specs.declared.parts.Kind.the-variants.{Text}
-use Rattle.manifest_shape.specs.Shape.{andThen, stringEnd, itemEnd, itemsEnd}
+use Rattle.manifest_shape.specs.Shape.{andThen, stringEnd, sizedEnd, itemEnd, itemsEnd}
 use Rattle.manifest.specs.Content.{textAt, textsFrom, listFrom}
 use Rattle.manifest.specs.Judged.{Wanted, exactly, anyText, meets, past, pastAll, nineStrings, stringsAgree}
 use Rattle.soundness.specs.ManifestMeaning.{Agree, none, same, any}
 use Rattle.soundness.proofs.ManifestParses.{then-to}
+use Rattle.soundness.proofs.ManifestPieces.{string-past}
 
 first-same : {v t : List ℕ} {ws : List Wanted} {ts : List (List ℕ)} → Agree (exactly v ∷ ws) (t ∷ ts) → (t ≡ v) × Agree ws ts
 first-same (same a) = (refl, a)
@@ -41,21 +42,21 @@ module _ (s : List ℕ) where
   stays-false : (p : Parsed) (ws : List Wanted) → walked p ws false ≡ false
   unfolding pastAll past
   stays-false p [] = refl
-  stays-false p (w ∷ ws) = stays-false (andThen p (stringEnd s)) ws
+  stays-false p (w ∷ ws) = stays-false (andThen p (sizedEnd s)) ws
 
-  walk-step : (w : Wanted) (ws : List Wanted) (p : ℕ) {q : ℕ} → stringEnd s p ≡ To q →
+  walk-step : (w : Wanted) (ws : List Wanted) (p : ℕ) {q : ℕ} → sizedEnd s p ≡ To q →
       walked (To p) (w ∷ ws) true ≡ walked (To q) ws (meets (textAt s (To p)) w)
   unfolding pastAll past
   walk-step w ws p j = ap (λ (a : Parsed). walked a ws (meets (textAt s (To p)) w)) j
 
-  texts-step : (n p : ℕ) {q : ℕ} → stringEnd s p ≡ To q → textsFrom s (suc n) p ≡ textAt s (To p) ∷ textsFrom s n q
+  texts-step : (n p : ℕ) {q : ℕ} → sizedEnd s p ≡ To q → textsFrom s (suc n) p ≡ textAt s (To p) ∷ textsFrom s n q
   unfolding listFrom
   texts-step n p j = rw j
 
   items-step : {A : Type 0} (n p : ℕ) {e : ℕ} → itemsEnd s Text (suc n) p ≡ To e →
-      ((q : ℕ) → stringEnd s p ≡ To q → itemsEnd s Text n q ≡ To e → A) → A
+      ((q : ℕ) → sizedEnd s p ≡ To q → itemsEnd s Text n q ≡ To e → A) → A
   unfolding itemsEnd itemEnd
-  items-step n p g = then-to (stringEnd s p) (itemsEnd s Text n) g
+  items-step n p g f = then-to (stringEnd s p) (itemsEnd s Text n) g λ q j k. f q (string-past s p q j) k
 
   walk-exactly : (ws : List Wanted) (p : ℕ) {e : ℕ} → itemsEnd s Text (length ws) p ≡ To e →
       (walked (To p) ws true ≡ true) ↔ Agree ws (textsFrom s (length ws) p)

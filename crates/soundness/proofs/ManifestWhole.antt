@@ -17,12 +17,12 @@ use Rattle.manifest_shape.specs.declared.parts.Parsed.the-variants.{To, Bad}
 use Rattle.manifest_shape.specs.declared.parts.Kind.the-variants.{Text, Root, Export, Field}
 use Rattle.manifest_shape.specs.declared.Layout.{Layout}
 use Rattle.manifest_shape.specs.declared.Manifest.the-variants.{Shape, Malformed}
-use Rattle.manifest_shape.specs.Shape.{itemEnd, itemsEnd, countedEnd, stringEnd, fieldEnd}
+use Rattle.manifest_shape.specs.Shape.{itemEnd, itemsEnd, countedEnd, sizedEnd, fieldEnd}
 use Rattle.manifest_shape.specs.Shape.{andThen, closureEnd, headEnd, place, ending, manifestOf}
 use Rattle.manifest.specs.Content.{textAt, textsFrom, rootsAt, exportsAt}
 use Rattle.soundness.specs.ManifestGrammar.{Contents, IsManifest, manifest}
 use Rattle.soundness.proofs.ManifestParses.{then-to, number-to, cond-to, bytes-reads, reads-bytes}
-use Rattle.soundness.proofs.ManifestPieces.{fieldAt, closure-parses}
+use Rattle.soundness.proofs.ManifestPieces.{string-past, fieldAt, closure-parses}
 use Rattle.soundness.proofs.ManifestCounted.{countedAt, items-forth, items-back}
 use Rattle.soundness.proofs.ManifestCounted.{text-kind, text-counted, root-counted, export-counted, field-counted}
 
@@ -118,7 +118,7 @@ contentsAt s l =
     record {
       minor = bigEndian (span s 10 2);
       strings = textsFrom s 9 (l .strings);
-      capabilities = countedAt s (stringEnd s) (λ p. textAt s (To p)) (l .capabilities);
+      capabilities = countedAt s (sizedEnd s) (λ p. textAt s (To p)) (l .capabilities);
       closure = orZero (numberAt 1 s (l .closure));
       roots = rootsAt s (l .roots);
       exports = exportsAt s (l .exports);
@@ -132,7 +132,7 @@ pub whole-forth : {s : List ℕ} {l : Layout} {metadata extensions : ℕ} → La
 unfolding itemEnd
 whole-forth {s} {l} t =
     let (major, r1, m1, r2, m2) = head-forth s (t .head) in
-    let (b3, r3, i3, l3) = items-forth s Text _ _ (text-kind s) 9 (r2 .fits) (t .strings) in
+    let (b3, r3, i3, l3) = items-forth s Text _ _ _ (string-past s) (text-kind s) 9 (r2 .fits) (t .strings) in
     let (b4, r4, i4) = text-counted s .forth (t .capabilities) in
     let (b5, r5, i5) = closure-parses s .forth (t .closure) in
     let (b6, r6, i6) = root-counted s .forth (t .roots) in
@@ -161,7 +161,7 @@ whole-back {s} r (manifest {m = m} {nine = nine} m1 m2 l3 i3 i4 i5 i6 i7 i8 i9) 
     let (p8, t8, r8) = reads-split r7 in
     let (p9, t9, t10) = reads-split r8 in
     let (g3, h3) = head-back t1 t2 m1 t3 m2 in
-    let (g4, h4) = items-back s Text _ _ (text-kind s) t4 i3 in
+    let (g4, h4) = items-back s Text _ _ _ (string-past s) (text-kind s) t4 i3 in
     let (g5, h5) = text-counted s .back t5 i4 in
     let (g6, h6) = closure-parses s .back t6 (i5, refl) in
     let (g7, h7) = root-counted s .back t7 i6 in

@@ -21,15 +21,19 @@ abbrev μ-loop : tie.MeasureT-loop
 loop-holds : tie.Need-loop-holds Inv-loop μ-loop
 loop-holds c = (omega arith, refl)
 
+kind-at-requires : tie.Need-kind-at-requires Inv-loop μ-loop
+kind-at-requires c κs = search needs
+
 entry-at-requires : tie.Need-entry-at-requires Inv-loop μ-loop
 entry-at-requires c κs = search needs
 
 returns : tie.Need-returns Inv-loop μ-loop
 returns c =
-    let entry = c .before .before in
-    sym
-    (entry .before .before .loop .inv .1
-    ∙ entry-here _ _ _ (omega arith) (entry .entry-at .ensures) _ (c .if1 .taken))
+    let kind = c .before .before in
+    c .entry-at .ensures
+    ∙ sym
+    (kind .before .before .loop .inv .1
+    ∙ entry-here _ _ _ (omega arith) (kind .kind-at .ensures) _ (c .before .if1 .taken))
 
 add-p : tie.Need-add-p Inv-loop μ-loop
 add-p c = search needs
@@ -42,10 +46,10 @@ loop-less c = search needs
 
 loop-again : tie.Need-loop-again Inv-loop μ-loop
 loop-again c =
-    let entry = c .before .before in (
+    let kind = c .before in (
       omega arith,
-      entry .before .before .loop .inv .1
-          ∙ entry-next _ _ _ (omega arith) (entry .entry-at .ensures) _ (c .if1 .left),
+      kind .before .before .loop .inv .1
+          ∙ entry-next _ _ _ (omega arith) (kind .kind-at .ensures) _ (c .if1 .left),
     )
 
 returns-2 : tie.Need-returns-2 Inv-loop μ-loop
@@ -58,6 +62,7 @@ entry-from-spec =
     Inv-loop
     μ-loop
     loop-holds
+    kind-at-requires
     entry-at-requires
     returns
     add-p

@@ -23,8 +23,8 @@ abbrev μ-loop : tie.MeasureT-loop
 loop-holds : tie.Need-loop-holds Inv-loop μ-loop
 loop-holds c = (omega arith, omega arith, omega arith)
 
-entry-at-requires : tie.Need-entry-at-requires Inv-loop μ-loop
-entry-at-requires c κs = search needs
+kind-at-requires : tie.Need-kind-at-requires Inv-loop μ-loop
+kind-at-requires c κs = search needs
 
 add-seen : tie.Need-add-seen Inv-loop μ-loop
 add-seen c = search needs
@@ -40,18 +40,18 @@ loop-less c = search needs
 
 loop-again : tie.Need-loop-again Inv-loop μ-loop
 loop-again c =
-    let entry = c .before .before in
-    let all = entry .before .before .loop .inv .2 in
+    let kind = c .before in
+    let all = kind .before .before .loop .inv .2 in
     ⊎-elim
     (λ w. (
       omega arith,
       omega (arith, w .1),
-      rw (w .1) (all ∙ counted-here _ _ _ (omega arith) (entry .entry-at .ensures) _ _ (w .0 .taken)),
+      rw (w .1) (all ∙ counted-here _ _ _ (omega arith) (kind .kind-at .ensures) _ _ (w .0 .taken)),
     ))
     (λ w. (
       omega arith,
       omega (arith, w .1),
-      rw (w .1) (all ∙ counted-next _ _ _ (omega arith) (entry .entry-at .ensures) _ _ (w .0 .left)),
+      rw (w .1) (all ∙ counted-next _ _ _ (omega arith) (kind .kind-at .ensures) _ _ (w .0 .left)),
     ))
     (c .if1 .came)
 
@@ -65,7 +65,7 @@ occurrences-spec =
     Inv-loop
     μ-loop
     loop-holds
-    entry-at-requires
+    kind-at-requires
     add-seen
     add-p
     sub-left

@@ -7,24 +7,24 @@ use Rattle.bundle.proofs.references.reference_end.Tie as tie
 enum-told : tie.Need-enum-told
 enum-told c = search needs
 
-root-end-requires : tie.Need-root-end-requires
-root-end-requires c κs = search needs
+root-past-requires : tie.Need-root-past-requires
+root-past-requires c κs = search needs
 
 enum-told-2 : tie.Need-enum-told-2
 enum-told-2 c = search needs
 
-export-end-requires : tie.Need-export-end-requires
-export-end-requires c κs = search needs
+export-past-requires : tie.Need-export-past-requires
+export-past-requires c κs = search needs
 
 returns : tie.Need-returns
 unfolding referenceEnd
-returns c = rw (c .before .enum-told .given .1) (c .root-end .ensures)
+returns c = rw (c .before .enum-told .given .1) (c .root-past .ensures)
 
 returns-2 : tie.Need-returns-2
 unfolding referenceEnd
-returns-2 c = rw (c .before .enum-told2 .given .1) (c .export-end .ensures)
+returns-2 c = rw (c .before .enum-told2 .given .1) (c .export-past .ensures)
 
 pub reference-end-spec : {M : Type 1} → statement M
 reference-end-spec =
     tie.close
-    (tie.spec enum-told root-end-requires enum-told-2 export-end-requires returns returns-2)
+    (tie.spec enum-told root-past-requires enum-told-2 export-past-requires returns returns-2)

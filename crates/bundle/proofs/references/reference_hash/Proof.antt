@@ -13,8 +13,8 @@ hash-at-requires c κs = search needs
 enum-told-2 : tie.Need-enum-told-2
 enum-told-2 c = search needs
 
-string-end-requires : tie.Need-string-end-requires
-string-end-requires c κs = search needs
+sized-end-requires : tie.Need-sized-end-requires
+sized-end-requires c κs = search needs
 
 hash-at-requires-2 : tie.Need-hash-at-requires-2
 hash-at-requires-2 c κs = search needs
@@ -25,7 +25,7 @@ returns c = rw (c .before .enum-told .given .1) (c .hash-at .ensures)
 
 returns-2 : tie.Need-returns-2
 unfolding referenceHash
-returns-2 c = rw (c .before .before .enum-told2 .given .1, ← c .before .string-end .ensures) (c .hash-at2 .ensures)
+returns-2 c = rw (c .before .before .enum-told2 .given .1, ← c .before .sized-end .ensures) (c .hash-at2 .ensures)
 
 pub reference-hash-spec : {M : Type 1} → statement M
 reference-hash-spec =
@@ -34,7 +34,7 @@ reference-hash-spec =
     enum-told
     hash-at-requires
     enum-told-2
-    string-end-requires
+    sized-end-requires
     hash-at-requires-2
     returns
     returns-2)

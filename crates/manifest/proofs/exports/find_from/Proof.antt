@@ -21,8 +21,8 @@ abbrev μ-loop : tie.MeasureT-loop
 loop-holds : tie.Need-loop-holds Inv-loop μ-loop
 loop-holds c = (omega arith, rw sub-zero)
 
-export-end-requires : tie.Need-export-end-requires Inv-loop μ-loop
-export-end-requires c κs = search needs
+export-past-requires : tie.Need-export-past-requires Inv-loop μ-loop
+export-past-requires c κs = search needs
 
 enum-known-q : tie.Need-enum-known-q Inv-loop μ-loop
 enum-known-q c = search needs
@@ -37,7 +37,7 @@ returns : tie.Need-returns Inv-loop μ-loop
 returns c =
     let ended = c .before .before .before .before .before .before in
     sym (ended .before .before .loop .inv .1 ∙
-    find-here (list-step _ _ _ _ (omega arith) (ended .export-end .ensures) (c .before .before .before .before .q .given .1))
+    find-here (list-step _ _ _ _ (omega arith) (ended .export-past .ensures) (c .before .before .before .before .q .given .1))
     _ _ (c .before .before .text-at .ensures) (c .before .same-bytes .ensures) (c .if1 .taken))
 
 enum-told : tie.Need-enum-told Inv-loop μ-loop
@@ -46,7 +46,7 @@ enum-told c = search needs
 returns-2 : tie.Need-returns-2 Inv-loop μ-loop
 returns-2 c =
     sym (c .before .before .before .before .loop .inv .1 ∙
-    find-none (list-stop _ _ _ _ (omega arith) (c .before .before .export-end .ensures) (c .enum-told .given .1)) _ _)
+    find-none (list-stop _ _ _ _ (omega arith) (c .before .before .export-past .ensures) (c .enum-told .given .1)) _ _)
 
 add-i : tie.Need-add-i Inv-loop μ-loop
 add-i c = search needs
@@ -63,7 +63,7 @@ loop-again c =
     let m : n - (turn .loop .i + 1) ≡ n - turn .loop .i - 1 = omega arith in (
       omega arith,
       rw m (turn .loop .inv .1 ∙
-          find-later (list-step _ _ _ _ (omega arith) (ended .export-end .ensures) (named .before .before .q .given .1))
+          find-later (list-step _ _ _ _ (omega arith) (ended .export-past .ensures) (named .before .before .q .given .1))
           _ _ (named .text-at .ensures) (c .before .same-bytes .ensures) (c .if1 .left)),
     )
 
@@ -77,7 +77,7 @@ find-from-spec =
     Inv-loop
     μ-loop
     loop-holds
-    export-end-requires
+    export-past-requires
     enum-known-q
     text-at-requires
     same-bytes-requires

@@ -21,8 +21,8 @@ abbrev μ-loop : tie.MeasureT-loop
 loop-holds : tie.Need-loop-holds Inv-loop μ-loop
 loop-holds c = (omega arith, omega arith, simp sub-zero)
 
-export-end-requires : tie.Need-export-end-requires Inv-loop μ-loop
-export-end-requires c κs = search needs
+export-past-requires : tie.Need-export-past-requires Inv-loop μ-loop
+export-past-requires c κs = search needs
 
 enum-known-q : tie.Need-enum-known-q Inv-loop μ-loop
 enum-known-q c = search needs
@@ -31,7 +31,7 @@ returns : tie.Need-returns Inv-loop μ-loop
 returns c =
     let ended = c .before .before .before .before in
     sym (ended .before .before .loop .inv .2 ∙
-    index-here _ (list-step _ _ _ _ (omega arith) (ended .export-end .ensures) (c .before .before .q .given .1))
+    index-here _ (list-step _ _ _ _ (omega arith) (ended .export-past .ensures) (c .before .before .q .given .1))
     _ _ (c .if1 .taken))
 
 enum-told : tie.Need-enum-told Inv-loop μ-loop
@@ -41,7 +41,7 @@ returns-2 : tie.Need-returns-2 Inv-loop μ-loop
 returns-2 c =
     let ended = c .before .before in
     sym (ended .before .before .loop .inv .2 ∙
-    index-none _ (list-stop _ _ _ _ (omega arith) (ended .export-end .ensures) (c .enum-told .given .1)) _)
+    index-none _ (list-stop _ _ _ _ (omega arith) (ended .export-past .ensures) (c .enum-told .given .1)) _)
 
 add-k : tie.Need-add-k Inv-loop μ-loop
 add-k c = search needs
@@ -59,7 +59,7 @@ loop-again c =
       omega arith,
       before,
       rw m (turn .loop .inv .2 ∙
-          index-later _ (list-step _ _ _ _ (omega arith) (ended .export-end .ensures) (c .before .before .q .given .1))
+          index-later _ (list-step _ _ _ _ (omega arith) (ended .export-past .ensures) (c .before .before .q .given .1))
           _ _ before),
     )
 
@@ -73,7 +73,7 @@ place-from-spec =
     Inv-loop
     μ-loop
     loop-holds
-    export-end-requires
+    export-past-requires
     enum-known-q
     returns
     enum-told

@@ -18,8 +18,8 @@ abbrev μ-loop : tie.MeasureT-loop
 loop-holds : tie.Need-loop-holds Inv-loop μ-loop
 loop-holds c = refl
 
-export-end-requires : tie.Need-export-end-requires Inv-loop μ-loop
-export-end-requires c κs = search needs
+export-past-requires : tie.Need-export-past-requires Inv-loop μ-loop
+export-past-requires c κs = search needs
 
 enum-known-q : tie.Need-enum-known-q Inv-loop μ-loop
 enum-known-q c = search needs
@@ -34,7 +34,7 @@ returns : tie.Need-returns Inv-loop μ-loop
 returns c =
     let ended = c .before .before .before .before .before in
     sym (ended .before .before .loop .inv ∙
-    fault-here (list-step _ _ _ _ (omega arith) (ended .export-end .ensures) (c .before .before .before .q .given .1))
+    fault-here (list-step _ _ _ _ (omega arith) (ended .export-past .ensures) (c .before .before .before .q .given .1))
     _ (c .before .faulty .ensures) (c .if1 .taken))
 
 loop-less : tie.Need-loop-less Inv-loop μ-loop
@@ -44,7 +44,7 @@ loop-again : tie.Need-loop-again Inv-loop μ-loop
 loop-again c =
     let ended = c .before .before .before .before .before in
     ended .before .before .loop .inv ∙
-    fault-later (list-step _ _ _ _ (omega arith) (ended .export-end .ensures) (c .before .before .before .q .given .1))
+    fault-later (list-step _ _ _ _ (omega arith) (ended .export-past .ensures) (c .before .before .before .q .given .1))
     _ (c .before .faulty .ensures) (c .if1 .left)
 
 enum-told : tie.Need-enum-told Inv-loop μ-loop
@@ -53,7 +53,7 @@ enum-told c = search needs
 returns-2 : tie.Need-returns-2 Inv-loop μ-loop
 returns-2 c =
     sym (c .before .before .before .before .loop .inv ∙
-    fault-none (list-stop _ _ _ _ (omega arith) (c .before .before .export-end .ensures) (c .enum-told .given .1)) _)
+    fault-none (list-stop _ _ _ _ (omega arith) (c .before .before .export-past .ensures) (c .enum-told .given .1)) _)
 
 returns-3 : tie.Need-returns-3 Inv-loop μ-loop
 returns-3 c = sym (c .before .loop .inv ∙ fault-none (list-none _ _ _ _ (omega arith)) _)
@@ -65,7 +65,7 @@ some-faulty-from-spec =
     Inv-loop
     μ-loop
     loop-holds
-    export-end-requires
+    export-past-requires
     enum-known-q
     sub-left
     faulty-requires

@@ -6,18 +6,18 @@ use Rattle.manifest.proofs.strings.string_past.Tie as tie
 enum-known-p : tie.Need-enum-known-p
 enum-known-p c = search needs
 
-string-end-requires : tie.Need-string-end-requires
-string-end-requires c κs = search needs
+sized-end-requires : tie.Need-sized-end-requires
+sized-end-requires c κs = search needs
 
 enum-told : tie.Need-enum-told
 enum-told c = search needs
 
 returns : tie.Need-returns
-returns c = rw (c .before .before .p .given .1) (c .string-end .ensures)
+returns c = rw (c .before .before .p .given .1) (c .sized-end .ensures)
 
 returns-2 : tie.Need-returns-2
 returns-2 c = search needs
 
 pub string-past-spec : {M : Type 1} → statement M
 string-past-spec =
-    tie.close (tie.spec enum-known-p string-end-requires enum-told returns returns-2)
+    tie.close (tie.spec enum-known-p sized-end-requires enum-told returns returns-2)
