@@ -6,7 +6,7 @@ use mathlib.Core.Bool.{Bool, true, false, cond, false≢true}
 use native.Mathlib.Omega.{arith}
 use native.Mathlib.Numerals.{add-one}
 use native.Mathlib.Decide.{decLt}
-use borrow.Author.Tests.{le-leb, lt-leb, leb-true, eq-eqb, ne-eqb}
+use borrow.Author.Tests.{lt-ltb, le-ltb, le-leb, lt-leb, leb-true, eq-eqb, ne-eqb}
 use lib.Dec.{leb}
 use lib.ListN.{length, getD, drop, replicate}
 use lib.Seq.{drop-cons, drop-length}
@@ -16,8 +16,8 @@ use Rattle.utf8.specs.declared.Next.{Next}
 use Rattle.utf8.specs.declared.Next.the-variants.{Go, Stop}
 use Rattle.utf8.specs.Rfc3629.{Octet}
 use Rattle.utf8.specs.Check.{Range, Row, _to_, _then_, wants, never, tail, utf8-char}
-use Rattle.utf8.specs.Check.{within, start, step, atEnd, checkFrom}
-use Rattle.utf8.specs.State.{tails, wanted, afterOf}
+use Rattle.utf8.specs.Check.{within, start, step, atEnd, checkFrom, check}
+use Rattle.utf8.specs.State.{tails, wanted, afterOf, ascii}
 
 -- an octet and a range
 module _ (lo hi b : ℕ) where
@@ -160,3 +160,45 @@ module _ (rs : List Range) (s : List ℕ) (i : ℕ) where
   pub from-end : i ≡ length s → checkFrom rs i (drop i s) ≡ atEnd rs i
   unfolding checkFrom
   from-end e = ap (λ (l : List ℕ). checkFrom rs i l) (ap (λ (k : ℕ). drop k s) e ∙ drop-length s)
+
+-- the count from i on: one octet on, at an octet that is not counted, and at the end
+module _ (s : List ℕ) (i : ℕ) where
+  pub ascii-go : i < length s → getD s i 0 < 0x80 → i + ascii (drop i s) ≡ i + 1 + ascii (drop (i + 1) s)
+  unfolding ascii
+  ascii-go h l = rw (drop-cons s i 0 h, lt-ltb (getD s i 0) 0x80 l, add-one i) (omega arith)
+
+  pub ascii-stop : i < length s → 0x80 ≤ getD s i 0 → i + ascii (drop i s) ≡ i
+  unfolding ascii
+  ascii-stop h l = rw (drop-cons s i 0 h, le-ltb (getD s i 0) 0x80 l) (omega arith)
+
+  pub ascii-end : i ≡ length s → i + ascii (drop i s) ≡ i
+  unfolding ascii
+  ascii-end e = let d : drop i s ≡ [] = ap (λ (k : ℕ). drop k s) e ∙ drop-length s in rw d (omega arith)
+
+pub ascii-inside : (s : List ℕ) → ascii s ≤ length s
+unfolding ascii
+ascii-inside [] = omega arith
+ascii-inside (b ∷ s) = elim (decLt b 0x80) [
+  | yes l ↦ rw (lt-ltb b 0x80 l) (omega (arith, ascii-inside s))
+  | no l ↦ rw (le-ltb b 0x80 (omega arith)) (omega arith)
+]
+
+-- with nothing wanted, the check goes on behind a character of one octet
+from-one : (at b : ℕ) (s : List ℕ) → b < 0x80 → checkFrom [] at (b ∷ s) ≡ checkFrom [] (at + 1) s
+unfolding checkFrom step utf8-char
+from-one at b s l = rw (start-char {b = b} (here (omega arith)))
+
+-- and so behind all of those at the start
+from-ascii : (at : ℕ) (s : List ℕ) → checkFrom [] at s ≡ checkFrom [] (at + ascii s) (drop (ascii s) s)
+unfolding ascii
+from-ascii at [] = let z : at + 0 ≡ at = omega arith in rw z
+from-ascii at (b ∷ s) = elim (decLt b 0x80) [
+  | yes l ↦
+      let z : at + suc (ascii s) ≡ at + 1 + ascii s = omega arith in
+      rw (lt-ltb b 0x80 l, z) (from-one at b s l ∙ from-ascii (at + 1) s)
+  | no l ↦ let z : at + 0 ≡ at = omega arith in rw (le-ltb b 0x80 (omega arith), z)
+]
+
+pub check-ascii : (s : List ℕ) → check s ≡ checkFrom [] (ascii s) (drop (ascii s) s)
+unfolding check
+check-ascii s = let z : 0 + ascii s ≡ ascii s = omega arith in rw z at (from-ascii 0 s)

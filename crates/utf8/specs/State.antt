@@ -1,9 +1,9 @@
--- What the states of the code stand for. The contracts inside the crate cite this; the public one does not.
-use Prim.Native.Nat.{ℕ, _-_}
+-- What the states of the code stand for, and where they begin. Contracts inside the crate cite this; the public one does not.
+use Prim.Native.Nat.{ℕ, suc, _-_}
 use mathlib.Core.List.{List, [], _∷_}
 use mathlib.Core.Bool.{cond}
 use lib.ListN.{replicate}
-use lib.Dec.{eqb}
+use lib.Dec.{ltb, eqb}
 use Rattle.utf8.specs.declared.Want.{Want}
 use Rattle.utf8.specs.declared.Next.{Next}
 use Rattle.utf8.specs.declared.Next.the-variants.{Go, Stop}
@@ -20,3 +20,8 @@ wanted w = cond (eqb (w .left) 0) [] ((w .low to w .high) ∷ replicate (w .left
 abbrev pub afterOf : Next → After
 afterOf (Go w) = wants (wanted w)
 afterOf Stop = never
+
+-- how many octets at the start are characters of one octet
+unfoldable pub ascii : List ℕ → ℕ
+ascii [] = 0
+ascii (b ∷ bytes) = cond (ltb b 0x80) (suc (ascii bytes)) 0

@@ -2,7 +2,7 @@
 ghost use mathlib.Core.Path.{_≡_};
 ghost use Prim.Native.Nat.{_≤_};
 ghost use Rattle.utf8.specs.Check.{utf8-char, start, step, atEnd, check};
-ghost use Rattle.utf8.specs.State.{tails, wanted, afterOf};
+ghost use Rattle.utf8.specs.State.{tails, wanted, afterOf, ascii};
 
 pub enum Utf8 {
     Valid,
@@ -124,11 +124,25 @@ fn at_end(w: Want, at: usize) -> Utf8
     Utf8::BadAt(at)
 }
 
+// How many bytes at the start are characters of one byte. Most texts have no other.
+fn ascii(s: &[u8]) -> usize
+    ensures { λ r. ⌜ r ≡ ascii (now (s .entry)) ⌝ }
+{
+    let mut i = 0;
+    while i < s.len() {
+        if 0x80 <= s[i] {
+            return i;
+        }
+        i += 1;
+    }
+    i
+}
+
 pub fn check(s: &[u8]) -> Utf8
     ensures { λ r. ⌜ r ≡ check (now (s .entry)) ⌝ }
 {
     let mut w = tails(0);
-    let mut i = 0;
+    let mut i = ascii(s);
     while i < s.len() {
         match step(w, s[i]) {
             Next::Go(n) => {

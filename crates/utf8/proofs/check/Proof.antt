@@ -5,7 +5,7 @@ use native.Mathlib.Omega.{arith}
 use lib.ListN.{length, drop}
 use Rattle.utf8.specs.Check.{check, checkFrom}
 use Rattle.utf8.specs.State.{wanted}
-use Rattle.utf8.proofs.Laws.{from-go, from-stop, from-end}
+use Rattle.utf8.proofs.Laws.{from-go, from-stop, from-end, ascii-inside, check-ascii}
 use borrow.Author.Needs.{needs}
 use Rattle.utf8.proofs.check.Statement.{statement}
 use Rattle.utf8.proofs.check.Tie as tie
@@ -19,9 +19,12 @@ abbrev μ-loop : tie.MeasureT-loop
 tails-requires : tie.Need-tails-requires Inv-loop μ-loop
 tails-requires c κs = search needs
 
+ascii-requires : tie.Need-ascii-requires Inv-loop μ-loop
+ascii-requires c κs = search needs
+
 loop-holds : tie.Need-loop-holds Inv-loop μ-loop
-unfolding check wanted
-loop-holds c = (omega arith, rw (c .tails .ensures))
+unfolding wanted
+loop-holds c = rw (c .before .tails .ensures, c .ascii .ensures) (ascii-inside _, check-ascii _)
 
 shared-slice-read-step : tie.Need-shared-slice-read-step Inv-loop μ-loop
 shared-slice-read-step c = search needs
@@ -66,6 +69,7 @@ check-spec =
     Inv-loop
     μ-loop
     tails-requires
+    ascii-requires
     loop-holds
     shared-slice-read-step
     step-requires
