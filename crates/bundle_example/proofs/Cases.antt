@@ -10,7 +10,7 @@ use Rattle.sha256_block.specs.Fips180.{K, H0, tabulate, lengthBytes, padding, p
 use Rattle.sha256_block.specs.Fips180.{compress, hash, bytesOf, sha256}
 use Rattle.manifest_shape.specs.Shape.{bytesEnd, textEnd, stringEnd, rootEnd, exportEnd, sizedEnd, fieldEnd, itemEnd, itemsEnd}
 use Rattle.manifest_shape.specs.Shape.{countedEnd, closureEnd, headEnd, ending, manifestOf}
-use Rattle.manifest.specs.Content.{textAt, hashAt, listFrom, countAt, rootsAt, exportsAt, names}
+use Rattle.manifest.specs.Content.{rootPast, exportPast, textAt, hashAt, listFrom, countAt, rootsAt, exportsAt, names}
 use Rattle.manifest.specs.Judged.{nineStrings, past, pastAll, stringsAgree, faulty as exportFaulty, someFaulty as someExport}
 use Rattle.manifest.specs.Judged.{malformed, unsupportedAt, unsupported, misnamedAt, misnamed, rootsOf, exportsOf}
 use Rattle.nodes.specs.Records.{childrenOf, payloadEnd, recordEnd, recordsEnd, records, count, nodesOf, shaped, nodeHash}
@@ -31,7 +31,7 @@ pub cases-hold : CasesHold
 unfolding leafBundle cases bigEndian inside spanEnd span numberAt sameBytes holdsAt indexOf anyOf someOf within utf8-char inRange
     start step atEnd checkFrom check K H0 tabulate lengthBytes padding padded nextWord schedule round rounds combined compress hash
     bytesOf sha256 bytesEnd textEnd stringEnd rootEnd exportEnd sizedEnd fieldEnd itemEnd itemsEnd countedEnd closureEnd headEnd
-    ending manifestOf textAt hashAt listFrom countAt rootsAt exportsAt names nineStrings past pastAll stringsAgree exportFaulty
+    ending manifestOf rootPast exportPast textAt hashAt listFrom countAt rootsAt exportsAt names nineStrings past pastAll stringsAgree exportFaulty
     someExport malformed unsupportedAt unsupported misnamedAt misnamed rootsOf exportsOf childrenOf payloadEnd recordEnd recordsEnd
     records count nodesOf shaped nodeHash hashes lacks recordFaulty someRecord linkOf firstLink secondLink links placedOf circular
     settled ready earliest put placing placed sectionCount directoryOffset tooLong tooShort otherMagic otherMajor noDirectory entryAt

@@ -11,7 +11,7 @@ use Rattle.sizes.specs.Sizes.{within}
 use Rattle.utf8.specs.Check.{utf8-char, within as inRange, start, step, atEnd, checkFrom, check}
 use Rattle.manifest_shape.specs.Shape.{bytesEnd, textEnd, stringEnd, rootEnd, exportEnd, sizedEnd, fieldEnd, itemEnd, itemsEnd}
 use Rattle.manifest_shape.specs.Shape.{countedEnd, closureEnd, headEnd, ending, manifestOf}
-use Rattle.manifest.specs.Content.{Export, textAt, hashAt, listFrom, exportsAt, names}
+use Rattle.manifest.specs.Content.{rootPast, exportPast, Export, textAt, hashAt, listFrom, exportsAt, names}
 use Rattle.manifest.specs.Judged.{exportsOf}
 use Rattle.nodes.specs.Records.{Node, childrenOf, payloadEnd, recordEnd, records, count, nodesOf, hashes}
 use Rattle.nodes.specs.Links.{linkOf, firstLink, secondLink, links, placedOf}
@@ -56,7 +56,7 @@ leaf-records = refl
 leaf-exports : exportsIn leafBundle ≡ leafExports
 unfolding leafBundle bigEndian inside spanEnd span numberAt sameBytes holdsAt within utf8-char inRange start step atEnd checkFrom check
     bytesEnd textEnd stringEnd rootEnd exportEnd sizedEnd fieldEnd itemEnd itemsEnd countedEnd closureEnd headEnd ending manifestOf
-    textAt hashAt listFrom exportsAt exportsOf sectionCount entryAt entriesFrom entries entryOf section
+    rootPast exportPast textAt hashAt listFrom exportsAt exportsOf sectionCount entryAt entriesFrom entries entryOf section
 leaf-exports = refl
 
 -- so the load is this
