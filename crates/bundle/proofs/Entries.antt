@@ -7,9 +7,9 @@ use native.Mathlib.Omega.{arith}
 use native.Mathlib.Decide.{decLe}
 use borrow.Author.Tests.{lt-ltb, le-ltb, eq-eqb, ne-eqb}
 use lib.Dec.{ltb, eqb}
-use lib.ListN.{length}
-use Rattle.wire.specs.Wire.{inside, someOf}
-use Rattle.wire.proofs.Spans.{inside-in, inside-out}
+use lib.ListN.{length, take, drop}
+use Rattle.wire.specs.Wire.{inside, numberAt, someOf}
+use Rattle.wire.proofs.Spans.{inside-in, inside-out, span-lent, number-within}
 use Rattle.wire.proofs.Tests.{below-exactly, either-false}
 use Rattle.bundle.specs.declared.directory.Entry.{Entry}
 use Rattle.bundle.specs.declared.directory.Fault.{Fault}
@@ -25,6 +25,11 @@ outside-test s start n = elim (decLe (start + n) (length s)) [
       let h : length s < start + n = omega (arith, k) in
       rw (inside-out s start n h) (sym (lt-ltb (length s) (start + n) h))
 ]
+
+-- a number at a place of the entry that the code lends itself is the number at that place behind the entry's start
+pub entry-number : (file : List ℕ) (at : ℕ) → at + entryBytes ≤ length file → (k n : ℕ) → k + n ≤ entryBytes →
+    numberAt n (take (at + entryBytes - at) (drop at file)) k ≡ numberAt n file (at + k)
+entry-number file at h k n l = rw (span-lent file at entryBytes h) (number-within file at entryBytes k n h l)
 
 module _ (file : List ℕ) where
   entries-more : (n p : ℕ) → 0 < n → {e : Entry} → e ≡ entryAt file p →

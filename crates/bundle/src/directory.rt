@@ -52,13 +52,15 @@ fn entry_at(file: &[u8], at: usize) -> Entry
     requires { ⌜ at + entryBytes ≤ length (now file) ⌝ }
     ensures { λ r. ⌜ r ≡ entryAt (now (file .entry)) at ⌝ }
 {
+    let end = at + ENTRY;
+    let e = &file[at..end];
     Entry {
-        kind: kind_at(file, at),
-        flags: wire::u16_at(file, at + 6).or_zero(),
-        compression: wire::u16_at(file, at + 8).or_zero(),
-        algorithm: wire::u16_at(file, at + 10).or_zero(),
-        offset: wire::u64_at(file, at + 12).or_zero(),
-        size: wire::u64_at(file, at + 20).or_zero(),
+        kind: wire::u32_at(e, 0).or_zero(),
+        flags: wire::u16_at(e, 6).or_zero(),
+        compression: wire::u16_at(e, 8).or_zero(),
+        algorithm: wire::u16_at(e, 10).or_zero(),
+        offset: wire::u64_at(e, 12).or_zero(),
+        size: wire::u64_at(e, 20).or_zero(),
         digest: at + 28,
     }
 }

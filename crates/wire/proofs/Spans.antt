@@ -103,14 +103,22 @@ module _ (s : List ℕ) (start n : ℕ) where
   pub span-length : start + n ≤ length s → length (span s start n) ≡ n
   span-length h = rw (← (span-in h)) (part-length s start n h)
 
--- a span of a span
-pub span-within : (s : List ℕ) (start size at n : ℕ) → start + size ≤ length s → at + n ≤ size →
-    span (span s start size) at n ≡ span s (start + at) n
-span-within s start size at n h k =
-    let inner : at + n ≤ length (span s start size) = rw (span-length s start size h) k in
-    sym (span-in (span s start size) at n inner) ∙
-    rw (← (span-in s start size h), part-front (drop start s) size at n k, drop-drop at start s)
-    (span-in s (start + at) n (omega arith))
+-- n bytes in a span, and those bytes in s
+module _ (s : List ℕ) (start size at n : ℕ) (h : start + size ≤ length s) (k : at + n ≤ size) where
+  bytes-within : take n (drop at (span s start size)) ≡ take n (drop (start + at) s)
+  bytes-within = rw (← (span-in s start size h), part-front (drop start s) size at n k, drop-drop at start s)
+
+  room-within : at + n ≤ length (span s start size)
+  room-within = rw (span-length s start size h) k
+
+  pub span-within : span (span s start size) at n ≡ span s (start + at) n
+  span-within =
+      sym (span-in (span s start size) at n room-within) ∙ bytes-within ∙ span-in s (start + at) n (omega arith)
+
+  pub number-within : numberAt n (span s start size) at ≡ numberAt n s (start + at)
+  unfolding numberAt
+  number-within =
+      rw (inside-in (span s start size) at n room-within, inside-in s (start + at) n (omega arith), bytes-within)
 
 -- and one of no bytes
 pub span-none : (s : List ℕ) → span s 0 0 ≡ []
