@@ -2,11 +2,11 @@
 use Prim.Native.Nat.{ℕ}
 use mathlib.Core.Path.{_≡_, refl, subst}
 use mathlib.Core.List.{List}
-use mathlib.Core.Logic.{inl, inr, ⊎-elim}
+use mathlib.Core.Logic.{_↔_, inl, inr, ⊎-elim}
 use native.Mathlib.Omega.{arith}
 use Rattle.engine.specs.declared.RunAnswer.the-variants.{Refused}
 use Rattle.engine.specs.Run.{Ran, ran}
-use Rattle.guarantees.specs.Run.{Exactly, RefusedExactly}
+use Rattle.guarantees.specs.Run.{RefusedExactly}
 use Rattle.guarantees.proofs.Verdict.{Unrefused, Verdict, out, misplaced, damaged, started, verdict}
 
 -- one refusal is not another
@@ -14,19 +14,19 @@ other : {A : Type 0} {w j : List ℕ} (m n : ℕ) → (m ≡ n → ⊥) → ran 
 other m n h e = absurd (h (cc))
 
 module _ (w j : List ℕ) {A B C : Type 0} where
-  exactly-21 : {r : Ran} → Verdict w j A B C r → Exactly (r ≡ ran w j (Refused 21)) A
+  exactly-21 : {r : Ran} → Verdict w j A B C r → (r ≡ ran w j (Refused 21)) ↔ A
   exactly-21 (out a) = (λ _. a, λ _. refl)
   exactly-21 (misplaced a b) = (other 23 21 (omega arith), λ h. absurd (a h))
   exactly-21 (damaged a b c) = (other 24 21 (omega arith), λ h. absurd (a h))
   exactly-21 (started a b c h) = (λ e. absurd (subst Unrefused e h), λ k. absurd (a k))
 
-  exactly-23 : {r : Ran} → Verdict w j A B C r → Exactly (r ≡ ran w j (Refused 23)) ((A → ⊥) × B)
+  exactly-23 : {r : Ran} → Verdict w j A B C r → (r ≡ ran w j (Refused 23)) ↔ ((A → ⊥) × B)
   exactly-23 (out a) = (other 21 23 (omega arith), λ h. absurd (h .0 a))
   exactly-23 (misplaced a b) = (λ _. (a, b), λ _. refl)
   exactly-23 (damaged a b c) = (other 24 23 (omega arith), λ h. absurd (b (h .1)))
   exactly-23 (started a b c h) = (λ e. absurd (subst Unrefused e h), λ k. absurd (b (k .1)))
 
-  exactly-24 : {r : Ran} → Verdict w j A B C r → Exactly (r ≡ ran w j (Refused 24)) ((A → ⊥) × (B → ⊥) × C)
+  exactly-24 : {r : Ran} → Verdict w j A B C r → (r ≡ ran w j (Refused 24)) ↔ ((A → ⊥) × (B → ⊥) × C)
   exactly-24 (out a) = (other 21 24 (omega arith), λ h. absurd (h .0 a))
   exactly-24 (misplaced a b) = (other 23 24 (omega arith), λ h. absurd (h .1 b))
   exactly-24 (damaged a b c) = (λ _. (a, b, c), λ _. refl)

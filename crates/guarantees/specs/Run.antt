@@ -3,7 +3,7 @@ use Prim.Native.Nat.{ℕ, _+_, _-_, _≤_, _<_}
 use mathlib.Core.Path.{_≡_}
 use mathlib.Core.List.{List, _++_}
 use mathlib.Core.Bool.{false}
-use mathlib.Core.Logic.{_⊎_}
+use mathlib.Core.Logic.{_⊎_, _↔_}
 use lib.ListN.{length, take, drop}
 use lib.IntN.{ℤ, pos, negsuc}
 use Rattle.calculus.specs.Tree.{Tree}
@@ -53,19 +53,15 @@ Damaged w (pos b) used =
     (i : ℕ) × (i < used) × (soundAt (drop b w) i ≡ false)
 Damaged w (negsuc b) used = ⊥
 
--- one holds exactly when the other does
-abbrev pub Exactly : Type 0 → Type 0 → Type 0
-Exactly A B = (A → B) × (B → A)
-
 -- A run is refused exactly when one of these holds, with the lowest number that applies.
 abbrev pub RefusedExactly : Type 0
 RefusedExactly =
     (w j : List ℕ) (base f x : ℤ) (used fuel : ℕ)
-    → Exactly (run w base f x used fuel j ≡ ran w j (Refused 21)) (OutOfTable w base used)
-    × Exactly (run w base f x used fuel j ≡ ran w j (Refused 23))
-    ((OutOfTable w base used → ⊥) × (Misplaced used f ⊎ Misplaced used x))
-    × Exactly (run w base f x used fuel j ≡ ran w j (Refused 24))
-    ((OutOfTable w base used → ⊥) × (Misplaced used f → ⊥) × (Misplaced used x → ⊥) × Damaged w base used)
+    → ((run w base f x used fuel j ≡ ran w j (Refused 21)) ↔ OutOfTable w base used)
+    × ((run w base f x used fuel j ≡ ran w j (Refused 23))
+    ↔ ((OutOfTable w base used → ⊥) × (Misplaced used f ⊎ Misplaced used x)))
+    × ((run w base f x used fuel j ≡ ran w j (Refused 24))
+    ↔ ((OutOfTable w base used → ⊥) × (Misplaced used f → ⊥) × (Misplaced used x → ⊥) × Damaged w base used))
 
 -- two tables agree from the base on; where there is no base, nothing is asked of them
 abbrev pub SameFrom : ℤ → List ℕ → List ℕ → Type 0
