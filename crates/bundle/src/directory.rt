@@ -48,6 +48,7 @@ fn kind_at(file: &[u8], at: usize) -> u64
     wire::u32_at(file, at).or_zero()
 }
 
+// The entry at a position. It is read in a part of its own, in which every place is known to lie.
 fn entry_at(file: &[u8], at: usize) -> Entry
     requires { ⌜ at + entryBytes ≤ length (now file) ⌝ }
     ensures { λ r. ⌜ r ≡ entryAt (now (file .entry)) at ⌝ }

@@ -52,10 +52,11 @@ rootEnd s at = andThen (bytesEnd s at 32) (λ p. stringEnd s p)
 unfoldable pub exportEnd : List ℕ → ℕ → Parsed
 exportEnd s at = andThen (stringEnd s at) (λ p. andThen (rootEnd s p) (λ q. stringEnd s q))
 
--- a field: a u16 tag, a u32 length, that many bytes
+-- a u32 length and that many bytes
 unfoldable pub sizedEnd : List ℕ → ℕ → Parsed
 sizedEnd s at = onNumber (numberAt 4 s at) (λ n. bytesEnd s (at + 4) n) Bad
 
+-- a field: a u16 tag, a u32 length, that many bytes
 unfoldable pub fieldEnd : List ℕ → ℕ → Parsed
 fieldEnd s at = andThen (bytesEnd s at 2) (λ p. sizedEnd s p)
 
