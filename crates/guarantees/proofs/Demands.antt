@@ -22,6 +22,7 @@ use Rattle.guarantees.proofs.LoadAccepted.{accepted-exactly, refused-by
 use Rattle.guarantees.proofs.LoadBlind.{load-blind}
 use Rattle.guarantees.proofs.LoadLeaves.{load-leaves}
 use Rattle.guarantees.proofs.OneOrder.{one-order, one-start}
+use Rattle.guarantees.proofs.OnlyLoad.{only-load}
 use Rattle.guarantees.proofs.RunZero.{has-leaf, run-zero}
 
 pub demand-1 : Demand1
@@ -47,6 +48,7 @@ demand-2 =
       accepted = accepted-exactly;
       refused = refused-by-lowest;
       fits = fits-exactly;
+      only-load = only-load;
       checked = checks.accepted-exactly;
       described = checks.described-exactly;
       by-lowest = checks.refused-by-lowest;

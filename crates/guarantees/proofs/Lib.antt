@@ -18,5 +18,8 @@ pub mod LoadAccepted
 pub mod LoadBlind
 pub mod OneOrder
 pub mod LoadLeaves
+pub mod OneTable
+pub mod OneLoad
+pub mod OnlyLoad
 pub mod RunZero
 pub mod Demands

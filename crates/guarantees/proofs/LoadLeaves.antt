@@ -1,9 +1,8 @@
 -- An accepted load leaves the records' trees in the slots, in the order of placing, and the slots of the exports.
 use Prim.Native.Nat.{ℕ, zero, suc, _≤_, _<_}
-use mathlib.Core.Path.{_≡_, refl, sym, ap, _∙_, subst}
+use mathlib.Core.Path.{_≡_, refl, sym, ap, _∙_}
 use mathlib.Core.Bool.{false}
 use mathlib.Core.List.{List, [], _∷_, _++_}
-use mathlib.Core.Logic.{_⊎_, inl, inr, ⊎-elim}
 use native.Mathlib.Omega.{arith}
 use native.Mathlib.Decide.{decLt, ℕ-discrete}
 use lib.ListN.{length, getD, take, drop, length-append, length-drop}
@@ -30,27 +29,15 @@ use Rattle.loader.specs.declared.LoadAnswer.the-variants.{Refused, Accepted}
 use Rattle.loader.specs.Answer.{numbers}
 use Rattle.loader.specs.Written.{slotNamed, written, slotsNamed}
 use Rattle.loader.specs.Load.{unfit, loadRefusal, loaded, exportsWritten, accept, acceptFrom, load}
-use Rattle.guarantees.specs.Order.{Placing, leaf-record, next-record, TreesOf, none, more}
+use Rattle.guarantees.specs.Order.{TreesOf, none, more}
 use Rattle.guarantees.specs.Load.{NamedSlot, Loads, LoadLeaves}
-use Rattle.guarantees.proofs.PlacingOrder.{among-hash, earliest-among, order, order-long, in-order}
+use Rattle.guarantees.proofs.PlacingOrder.{among-hash, placing-among, order, order-long, in-order}
 use Rattle.guarantees.proofs.OneLeaf.{one-leaf}
 use Rattle.guarantees.proofs.LoadedTable.{named-holds, slot-order, written-untouched, table-holds}
 use Rattle.guarantees.proofs.LoadVerdict.{fitting, unrefused-exactly, load-unrefused, load-refused}
 use Rattle.guarantees.proofs.LoadAccepted.{nodes-read, exports-read, unrefused-loadable}
 
 -- ---- lists
-
--- a placed record is one of the records
-among-join : {r : Node} (ps : List Node) {q : Node} → Among r (ps ++ (q ∷ [])) → Among r ps ⊎ (r ≡ q)
-among-join [] here = inr refl
-among-join (p ∷ ps) here = inl here
-among-join (p ∷ ps) (there a) = ⊎-elim (λ b. inl (there b)) inr (among-join ps a)
-
-placing-among : {rs ps : List Node} {r : Node} → Placing rs ps → Among r ps → Among r rs
-placing-among (leaf-record a e) here = a
-placing-among {rs = rs} {r = r} (next-record {placed = ps} {r = q} p e) a =
-    ⊎-elim (λ b. placing-among p b)
-    (λ z. subst (λ (n : Node). Among n rs) (sym z) (earliest-among rs e)) (among-join ps a)
 
 some-nodes : {rs : List Node} {s : List ℕ} → IsNodes rs s → 0 < length rs
 some-nodes (nodes n l m q) = omega arith
@@ -141,7 +128,7 @@ module _ (file w out : List ℕ) (b : ℕ) (sound : Sound file) (inside : b ≤ 
   unfolding exportsWritten
   loads =
       let is-order = in-order rs few (sound .distinct) (sound .closed) whole some in
-      let (store, trees, long) = trees-of placedAll (λ r a. placing-among (is-order .placing) a) in
+      let (store, trees, long) = trees-of placedAll (λ r a. placing-among rs (is-order .placing) a) in
       let k = slots-long rs (exportHashes es) in
       let m = export-hashes-length es in
       record {

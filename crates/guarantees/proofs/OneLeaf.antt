@@ -1,39 +1,59 @@
--- A sound bundle has just one record with no children: the leaf's.
+-- The records of a sound bundle differ in their children. So just one has none, the leaf's; and just one hash names a tree.
 use Prim.Native.Nat.{ℕ}
 use mathlib.Core.Path.{_≡_, refl, sym, ap, _∙_}
 use mathlib.Core.List.{List, [], _∷_, _++_}
 use native.Mathlib.Omega.{arith}
-use lib.ListN.{length, length-append}
+use lib.ListN.{take, length-append}
+use lib.Seq.{take-all, take-at, drop-at}
 use Rattle.wire.specs.Relations.{Among, here, there, Distinct, Sequence, next}
+use Rattle.wire.proofs.Spans.{span-in}
+use Rattle.calculus.specs.Tree.{Tree}
 use Rattle.nodes.specs.Records.{Node, childrenOf, children, nodeHash, hashes}
-use Rattle.nodes.proofs.Payloads.{children-one, children-two}
+use Rattle.nodes.proofs.Payloads.{children-none, children-one, children-two}
 use Rattle.nodes.proofs.Children.{one-record}
+use Rattle.soundness.specs.Graph.{Names, names-leaf, names-stem, names-fork}
 use Rattle.soundness.specs.NodesGrammar.{IsPayload, leaf, stem, fork, IsRecord, node, IsNodes, nodes}
 use Rattle.soundness.specs.NodesMeaning.{Hashed}
 
-leaf-payload : {cs : List (List ℕ)} {p : List ℕ} → IsPayload cs p → childrenOf p ≡ [] → p ≡ 0 ∷ []
-leaf-payload leaf e = refl
-leaf-payload (stem {a = a} l) e =
-    absurd (omega (arith, ap length (sym (children-one (1 ∷ a) refl (omega arith)) ∙ e)))
-leaf-payload (fork {a = a} {b = b} l m) e =
+-- the children of a payload are those that it says, and tell which payload it is
+payload-children : {cs : List (List ℕ)} {p : List ℕ} → IsPayload cs p → childrenOf p ≡ cs
+payload-children leaf = children-none (0 ∷ []) (omega arith) (omega arith)
+payload-children (stem {a = a} l) =
+    children-one (1 ∷ a) (sym (take-all 32 a (omega arith)) ∙ span-in (1 ∷ a) 1 32 (omega arith)) (omega arith)
+payload-children (fork {a = a} {b = b} l m) =
     let j = length-append a b in
-    absurd (omega (arith, ap length (sym (children-two (2 ∷ (a ++ b)) refl refl (omega arith)) ∙ e)))
+    let p : List ℕ = 2 ∷ (a ++ b) in
+    children-two p (sym (take-at a b 32 l) ∙ span-in p 1 32 (omega arith))
+    (sym (take-all 32 b (omega arith)) ∙ ap (take 32) (sym (drop-at a b 32 l)) ∙ span-in p 33 32 (omega arith)) (omega arith)
 
-record-payload : {r : Node} {b : List ℕ} → IsRecord r b → (cs : List (List ℕ)) × IsPayload cs (r .payload)
-record-payload (node {cs = cs} l m i) = (cs, i)
+one-payload : {cs : List (List ℕ)} {p q : List ℕ} → IsPayload cs p → IsPayload cs q → p ≡ q
+one-payload leaf leaf = refl
+one-payload (stem l) (stem m) = refl
+one-payload (fork l m) (fork l′ m′) = refl
+
+record-payload : {r : Node} {b : List ℕ} → IsRecord r b → IsPayload (children r) (r .payload)
+record-payload (node l m i) = rw (payload-children i) i
 
 each-payload : {r : Node} {rs : List Node} {b : List ℕ} → Sequence IsRecord rs b → Among r rs →
-    (cs : List (List ℕ)) × IsPayload cs (r .payload)
+    IsPayload (children r) (r .payload)
 each-payload (next i s) here = record-payload i
 each-payload (next i s) (there a) = each-payload s a
 
-node-payload : {r : Node} {rs : List Node} {s : List ℕ} → IsNodes rs s → Among r rs →
-    (cs : List (List ℕ)) × IsPayload cs (r .payload)
+node-payload : {r : Node} {rs : List Node} {s : List ℕ} → IsNodes rs s → Among r rs → IsPayload (children r) (r .payload)
 node-payload (nodes n l m q) a = each-payload q a
 
-module _ (rs : List Node) {s : List ℕ} (are : IsNodes rs s) (hashed : Hashed rs) (apart : Distinct (hashes rs)) where
-  pub one-leaf : (r q : Node) → Among r rs → Among q rs → children r ≡ [] → children q ≡ [] → r ≡ q
-  one-leaf r q a b e f =
-      let p : r .payload ≡ 0 ∷ [] = leaf-payload (node-payload are a .1) e in
-      let o : q .payload ≡ 0 ∷ [] = leaf-payload (node-payload are b .1) f in
-      one-record rs apart a b (hashed r a ∙ ap nodeHash (p ∙ sym o) ∙ sym (hashed q b))
+module _ (rs : List Node) {s : List ℕ} (are : IsNodes rs s) (hashed : Hashed rs) where
+  same-hash : (r q : Node) → Among r rs → Among q rs → children r ≡ children q → r .hash ≡ q .hash
+  same-hash r q a b e =
+      let p : r .payload ≡ q .payload = one-payload (node-payload are a) (rw e (node-payload are b)) in
+      hashed r a ∙ ap nodeHash p ∙ sym (hashed q b)
+
+  pub one-hash : {h g : List ℕ} {t : Tree} → Names rs h t → Names rs g t → h ≡ g
+  one-hash (names-leaf {r = r} i e k) (names-leaf {r = q} j f l) = sym e ∙ same-hash r q i j (k ∙ sym l) ∙ f
+  one-hash (names-stem {r = r} i e k n) (names-stem {r = q} j f l m) =
+      sym e ∙ same-hash r q i j (cc (one-hash n m)) ∙ f
+  one-hash (names-fork {r = r} i e k n o) (names-fork {r = q} j f l m p) =
+      sym e ∙ same-hash r q i j (cc (one-hash n m, one-hash o p)) ∙ f
+
+  pub one-leaf : Distinct (hashes rs) → (r q : Node) → Among r rs → Among q rs → children r ≡ [] → children q ≡ [] → r ≡ q
+  one-leaf apart r q a b e f = one-record rs apart a b (same-hash r q a b (e ∙ sym f))

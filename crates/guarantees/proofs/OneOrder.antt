@@ -1,4 +1,4 @@
--- A sound bundle has one order of placing, and one tree for each of its records.
+-- A sound bundle has one order of placing, and one tree for each of its records, no two the same.
 use Prim.Native.Nat.{ℕ, _<_}
 use mathlib.Core.Path.{_≡_, refl, sym, ap, _∙_, subst}
 use mathlib.Core.List.{List, [], _∷_, _++_}
@@ -8,11 +8,14 @@ use lib.ListN.{length, length-append}
 use Rattle.wire.specs.Relations.{Among, here, there, Distinct}
 use Rattle.calculus.specs.Tree.{Tree}
 use Rattle.nodes.specs.Records.{Node, children, hashes}
+use Rattle.nodes.proofs.Children.{number-of, one-record}
+use Rattle.soundness.specs.Graph.{Names}
 use Rattle.soundness.specs.Sound.{Sound}
 use Rattle.soundness.proofs.NodesTrees.{one-tree}
-use Rattle.guarantees.specs.Order.{Earliest, Placing, leaf-record, next-record, TreesOf, none, more}
+use Rattle.guarantees.specs.Order.{Earliest, Placing, leaf-record, next-record, Order, TreesOf, none, more}
 use Rattle.guarantees.specs.Load.{OneOrder, OneStart}
-use Rattle.guarantees.proofs.OneLeaf.{one-leaf}
+use Rattle.guarantees.proofs.PlacingOrder.{among-join, placing-among}
+use Rattle.guarantees.proofs.OneLeaf.{one-hash, one-leaf}
 use Rattle.guarantees.proofs.LoadAccepted.{nodes-read}
 
 -- two elements of one list are the same, or one stands before the other
@@ -51,7 +54,7 @@ module _ (rs : List Node)
       cc
 
 -- its records are those that are read
-same-nodes : {file : List ℕ} (s s′ : Sound file) → s′ .nodes ≡ s .nodes
+pub same-nodes : {file : List ℕ} (s s′ : Sound file) → s′ .nodes ≡ s .nodes
 same-nodes s s′ = sym (nodes-read s′) ∙ nodes-read s
 
 pub one-order : OneOrder
@@ -68,3 +71,42 @@ pub one-start : OneStart
 one-start file s s′ order a b x y =
     same-store (s .nodes) (s .distinct) order a b x
     (subst (λ (rs : List Node). TreesOf rs order b) (same-nodes s s′) y)
+
+-- ---- no tree stands twice in the store
+
+distinct-join : {r : Node} {ps : List Node} → Distinct ps → (Among r ps → ⊥) → Distinct (ps ++ (r ∷ []))
+distinct-join Distinct.none n = Distinct.more n Distinct.none
+distinct-join (Distinct.more {x = p} {xs = ps} m d) n =
+    Distinct.more
+    (λ a. ⊎-elim m (λ z. n (subst (λ (q : Node). Among q (p ∷ ps)) z here)) (among-join ps a))
+    (distinct-join d (λ a. n (there a)))
+
+placing-distinct : {rs ps : List Node} → Placing rs ps → Distinct ps
+placing-distinct (leaf-record {r = r} a e) = Distinct.more {x = r} {xs = []} (λ b. omega (arith, number-of b .1)) Distinct.none
+placing-distinct (next-record p e) = distinct-join (placing-distinct p) (e .unplaced)
+
+-- a tree of the store is that of a placed record
+tree-of : {rs order : List Node} {store : List Tree} {t : Tree} → TreesOf rs order store → Among t store →
+    (r : Node) × Among r order × Names rs (r .hash) t
+tree-of (more {r = r} n x) here = (r, here, n)
+tree-of (more n x) (there a) = let (r, b, m) = tree-of x a in (r, there b, m)
+
+module _ {file : List ℕ} (sound : Sound file) where
+  trees-distinct : {order : List Node} {store : List Tree} → TreesOf (sound .nodes) order store →
+      ((r : Node) → Among r order → Among r (sound .nodes)) → Distinct order → Distinct store
+  trees-distinct none among d = Distinct.none
+  trees-distinct (more {r = r} n x) among (Distinct.more fresh d) =
+      Distinct.more
+      (λ a.
+      let (q, b, m) = tree-of x a in
+      let z : q ≡ r
+      = one-record (sound .nodes) (sound .distinct) (among q (there b)) (among r here)
+      (one-hash (sound .nodes) (sound .is-nodes) (sound .hashed) m n)
+      in
+      fresh (rw z at b))
+      (trees-distinct x (λ q b. among q (there b)) d)
+
+  pub store-distinct : {order : List Node} {store : List Tree} → Order (sound .nodes) order →
+      TreesOf (sound .nodes) order store → Distinct store
+  store-distinct o x =
+      trees-distinct x (λ r a. placing-among (sound .nodes) (o .placing) a) (placing-distinct (o .placing))

@@ -3,7 +3,7 @@ use Prim.Native.Nat.{ℕ, zero, suc, _+_, _-_, _≤_, _<_}
 use mathlib.Core.Path.{_≡_, refl, sym, ap, _∙_, subst}
 use mathlib.Core.Bool.{true, false}
 use mathlib.Core.List.{List, [], _∷_, _++_}
-use mathlib.Core.Logic.{_⊎_, inl, inr}
+use mathlib.Core.Logic.{_⊎_, inl, inr, ⊎-elim}
 use native.Mathlib.Omega.{arith}
 use native.Mathlib.Decide.{decLt, ℕ-discrete}
 use lib.ListN.{length, getD, take, drop, length-append, getD-replicate}
@@ -51,6 +51,11 @@ among-take (r ∷ rs) (suc i) (there a) =
     let (j, l, m, e) = among-take rs i a in (suc j, omega arith, omega arith, e)
 
 -- an element of a list that is joined at the end
+pub among-join : {r : Node} (ps : List Node) {q : Node} → Among r (ps ++ (q ∷ [])) → Among r ps ⊎ (r ≡ q)
+among-join [] here = inr refl
+among-join (p ∷ ps) here = inl here
+among-join (p ∷ ps) (there a) = ⊎-elim (λ b. inl (there b)) inr (among-join ps a)
+
 at-front : (ps : List Node) (r : Node) (j : ℕ) → j < length ps → at (ps ++ (r ∷ [])) j ≡ at ps j
 at-front [] r j l = absurd (omega arith)
 at-front (p ∷ ps) r zero l = refl
@@ -84,6 +89,13 @@ module _ (rs : List Node) where
 
   pub earliest-among : {ps : List Node} {r : Node} → Earliest rs ps r → Among r rs
   earliest-among {r = r} e = rw (e .there) (among-middle r (e .before) (e .behind))
+
+  -- a placed record is one of the records
+  pub placing-among : {ps : List Node} {r : Node} → Placing rs ps → Among r ps → Among r rs
+  placing-among (leaf-record a e) here = a
+  placing-among {r = r} (next-record {placed = ps} {r = q} p e) a =
+      ⊎-elim (λ b. placing-among p b)
+      (λ z. subst (λ (n : Node). Among n rs) (sym z) (earliest-among e)) (among-join ps a)
 
   stages-placing : {ps : List Node} → Stages rs ps → (ps ≡ []) ⊎ Placing rs ps
   stages-placing start = inl refl

@@ -18,7 +18,8 @@ use Rattle.loader.specs.Answer.{numbers}
 use Rattle.loader.specs.Load.{loaded, load}
 use Rattle.guarantees.specs.Run.{RefusalKeeps, RefusedExactly, BaseBlind, DoneStays}
 use Rattle.guarantees.specs.Session.{Request, AllAlike}
-use Rattle.guarantees.specs.Load.{FitsExactly, AcceptedExactly, RefusedByLowest, Loads, OneOrder, OneStart, LoadBlind}
+use Rattle.guarantees.specs.Load.{FitsExactly, AcceptedExactly, RefusedByLowest, OnlyLoad}
+use Rattle.guarantees.specs.Load.{Loads, OneOrder, OneStart, LoadBlind}
 
 -- slot zero, of the table from the base on, is the leaf
 abbrev pub ZeroIsLeaf : ℤ → List ℕ → Type 0
@@ -55,6 +56,8 @@ pub record Demand2 : Type 0 where
   pub accepted : AcceptedExactly
   pub refused : RefusedByLowest
   pub fits : FitsExactly
+  -- nothing is left open: no other call keeps these promises
+  pub only-load : OnlyLoad
   -- the same of the check alone, 1 to 20, and of the names, 1 to 14
   pub checked : checks.AcceptedExactly
   pub described : checks.DescribedExactly

@@ -41,23 +41,33 @@ pub record Loadable (file words : List ℕ) (base : ℤ) (exports : List ℕ) : 
   pub fits : Unfit words (length (sound .nodes)) base → ⊥
   pub space : length (sound .described .manifest .exports) ≤ length exports
 
--- the numbers that the call answers
+-- what any load call leaves and answers, by the file, the word table, the base and the export table
+abbrev pub LoadCall : Type 0
+LoadCall = List ℕ → List ℕ → ℤ → List ℕ → Loaded
+
+-- the numbers that it answers
 abbrev pub answerOf : Loaded → Numbers
 answerOf (loaded words exports a) = numbers a
 
 -- A load is accepted, which is answered with 0, exactly when the bundle is sound, within the limits, and fits.
-abbrev pub AcceptedExactly : Type 0
-AcceptedExactly =
+abbrev pub AcceptsExactly : LoadCall → Type 0
+AcceptsExactly call =
     (file words : List ℕ) (base : ℤ) (exports : List ℕ) →
-    (answerOf (load file words base exports) .number ≡ 0) ↔ Loadable file words base exports
+    (answerOf (call file words base exports) .number ≡ 0) ↔ Loadable file words base exports
+
+abbrev pub AcceptedExactly : Type 0
+AcceptedExactly = AcceptsExactly load
 
 -- Any other is answered by the lowest number that applies, one of the list, with every other number 0; and no word is changed.
-abbrev pub RefusedByLowest : Type 0
-RefusedByLowest =
+abbrev pub RefusesByLowest : LoadCall → Type 0
+RefusesByLowest call =
     (file words words′ : List ℕ) (base : ℤ) (exports exports′ : List ℕ) (a : LoadAnswer) →
-    load file words base exports ≡ loaded words′ exports′ a → (numbers a .number ≡ 0 → ⊥) →
+    call file words base exports ≡ loaded words′ exports′ a → (numbers a .number ≡ 0 → ⊥) →
     Lowest (loadChecks file words base exports) (numbers a .number) × (numbers a .number ≤ 22)
     × (numbers a .nodes ≡ 0) × (numbers a .exports ≡ 0) × (words′ ≡ words) × (exports′ ≡ exports)
+
+abbrev pub RefusedByLowest : Type 0
+RefusedByLowest = RefusesByLowest load
 
 -- ---- what an accepted load leaves
 
@@ -94,14 +104,16 @@ pub record Loads (file words : List ℕ) (base : ℤ) (exports words′ exports�
   pub exports-long : length exports′ ≡ length exports
   pub exports-rest : drop (answer .exports) exports′ ≡ drop (answer .exports) exports
 
-abbrev pub LoadLeaves : Type 0
-LoadLeaves =
+abbrev pub Leaves : LoadCall → Type 0
+Leaves call =
     (file words words′ : List ℕ) (base : ℤ) (exports exports′ : List ℕ) (a : LoadAnswer) →
-    load file words base exports ≡ loaded words′ exports′ a → numbers a .number ≡ 0 →
+    call file words base exports ≡ loaded words′ exports′ a → numbers a .number ≡ 0 →
     Loads file words base exports words′ exports′ (numbers a)
 
--- A sound bundle has just one order of placing, and just one store, however its soundness is shown: nothing is left open in what
--- a load leaves.
+abbrev pub LoadLeaves : Type 0
+LoadLeaves = Leaves load
+
+-- A sound bundle has just one order of placing, and just one store, however its soundness is shown.
 abbrev pub OneOrder : Type 0
 OneOrder =
     (file : List ℕ) (s s′ : Sound file) (order order′ : List Node) →
@@ -111,6 +123,13 @@ abbrev pub OneStart : Type 0
 OneStart =
     (file : List ℕ) (s s′ : Sound file) (order : List Node) (store store′ : List Tree) →
     TreesOf (s .nodes) order store → TreesOf (s′ .nodes) order store′ → store ≡ store′
+
+-- Nothing is left open: a call that keeps these three promises leaves and answers what this one does, on every input. So a load
+-- that refuses everything, gives one fixed answer, puts a tree into another slot or writes a word more breaks one of them.
+abbrev pub OnlyLoad : Type 0
+OnlyLoad =
+    (call : LoadCall) → AcceptsExactly call → RefusesByLowest call → Leaves call →
+    (file words : List ℕ) (base : ℤ) (exports : List ℕ) → call file words base exports ≡ load file words base exports
 
 -- ---- the words before the base
 
