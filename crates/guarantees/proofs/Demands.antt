@@ -52,6 +52,7 @@ demand-2 =
       checked = checks.accepted-exactly;
       described = checks.described-exactly;
       by-lowest = checks.refused-by-lowest;
+      only-check = checks.only-check;
     }
 
 -- the requests start from what the load left

@@ -11,7 +11,7 @@ pub mod OneStore
 pub mod SessionSimulates
 pub mod PlacingOrder
 pub mod WrittenSlots
-pub mod OneLeaf
+pub mod OneHash
 pub mod LoadedTable
 pub mod LoadVerdict
 pub mod LoadAccepted

@@ -5,10 +5,8 @@ use mathlib.Core.Path.{_≡_, refl, sym, ap, _∙_}
 use mathlib.Core.List.{List}
 use mathlib.Core.Logic.{_↔_}
 use native.Mathlib.Omega.{arith}
-use native.Mathlib.Decide.{decLt, ℕ-discrete}
-use Rattle.wire.proofs.Bytes.{not-both}
-use Rattle.bundle.specs.Checks.{Check}
-use Rattle.soundness.specs.Meaning.{Lowest}
+use native.Mathlib.Decide.{ℕ-discrete}
+use Rattle.soundness.proofs.Lowest.{one-lowest}
 use Rattle.loader.specs.declared.LoadAnswer.{LoadAnswer}
 use Rattle.loader.specs.declared.LoadAnswer.the-variants.{Refused, Accepted}
 use Rattle.loader.specs.Answer.{Numbers, numbers}
@@ -17,17 +15,6 @@ use Rattle.guarantees.specs.Load.{Loadable, OnlyLoad}
 use Rattle.guarantees.proofs.LoadAccepted.{accepted-exactly, refused-by-lowest}
 use Rattle.guarantees.proofs.LoadLeaves.{load-leaves}
 use Rattle.guarantees.proofs.OneLoad.{same-three, one-load}
-
--- a list of checks has one lowest number
-one-lowest : {cs : List Check} {n m : ℕ} → Lowest cs n → Lowest cs m → n ≡ m
-one-lowest {n = n} {m = m} l k =
-    elim (decLt n m) [
-      | yes h ↦ not-both (l .applies) (k .lowest (l .check) (l .listed) (omega (arith, l .number)))
-      | no h ↦ elim (decLt m n) [
-        | yes g ↦ not-both (k .applies) (l .lowest (k .check) (k .listed) (omega (arith, k .number)))
-        | no g ↦ omega (arith, h, g)
-      ]
-    ]
 
 -- an answer is known by its numbers: an accepted load has nodes
 one-answer : (a b : LoadAnswer) → (numbers a .number ≡ 0 → 0 < numbers a .nodes) → numbers a ≡ numbers b → a ≡ b

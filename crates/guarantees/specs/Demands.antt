@@ -62,6 +62,7 @@ pub record Demand2 : Type 0 where
   pub checked : checks.AcceptedExactly
   pub described : checks.DescribedExactly
   pub by-lowest : checks.RefusedByLowest
+  pub only-check : checks.OnlyCheck
 
 -- 3. For every accepted bundle and every list of runs after it, refused ones included, the runs go as the bundle's own trees
 -- do on the reference machine. One claim about the whole list: from the table and the used count that the load left, any

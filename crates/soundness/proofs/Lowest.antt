@@ -1,11 +1,13 @@
--- A table of refusals whose numbers ascend answers the lowest number that applies.
+-- A table of refusals whose numbers ascend answers the lowest number that applies, and there is just one.
 use Prim.Native.Nat.{ℕ, _<_}
 use mathlib.Core.Path.{_≡_, refl, sym, subst, _∙_}
 use mathlib.Core.List.{List, [], _∷_}
 use mathlib.Core.Bool.{Bool, true, false}
 use mathlib.Core.Logic.{_⊎_, inl, inr}
 use native.Mathlib.Omega.{arith}
+use native.Mathlib.Decide.{decLt}
 use Rattle.wire.specs.Relations.{Among, here, there}
+use Rattle.wire.proofs.Bytes.{not-both}
 use Rattle.bundle.specs.Checks.{Check, firstOf}
 use Rattle.soundness.specs.Meaning.{Lowest}
 use Rattle.bundle.proofs.Rows.{Ascends, row-holds, row-passes}
@@ -52,3 +54,14 @@ first-lowest n (c ∷ cs) a = test (c .holds) refl (first-lowest (c .number) cs 
     test true q rest = inr (subst (Lowest (c ∷ cs)) (sym (row-holds c cs q)) (lowest-here (a .1) q))
     test false q (inl e) = inl (row-passes c cs q ∙ e)
     test false q (inr l) = inr (subst (Lowest (c ∷ cs)) (sym (row-passes c cs q)) (lowest-behind q l))
+
+-- a list of checks has one lowest number
+pub one-lowest : {cs : List Check} {n m : ℕ} → Lowest cs n → Lowest cs m → n ≡ m
+one-lowest {n = n} {m = m} l k =
+    elim (decLt n m) [
+      | yes h ↦ not-both (l .applies) (k .lowest (l .check) (l .listed) (omega (arith, l .number)))
+      | no h ↦ elim (decLt m n) [
+        | yes g ↦ not-both (k .applies) (l .lowest (k .check) (k .listed) (omega (arith, k .number)))
+        | no g ↦ omega (arith, h, g)
+      ]
+    ]

@@ -1,7 +1,8 @@
 -- The answers mean what specs/Meaning.antt says.
 use Prim.Native.Nat.{ℕ, _≤_, _<_}
-use mathlib.Core.Path.{_≡_, refl, ap, _∙_}
+use mathlib.Core.Path.{_≡_, refl, sym, ap, _∙_}
 use mathlib.Core.List.{List, [], _∷_}
+use mathlib.Core.Logic.{_⊎_, inl, inr}
 use native.Mathlib.Omega.{arith}
 use native.Mathlib.Decide.{ℕ-discrete}
 use borrow.Author.Tests.{ne-eqb}
@@ -22,10 +23,10 @@ use Rattle.bundle.specs.Checks.{nameRefusal, refusal}
 use Rattle.bundle.specs.Exports.{namePart, indexAsked, indexCall, answerOf, numbers}
 use Rattle.soundness.specs.Sound.{Described, Sound}
 use Rattle.soundness.specs.Meaning.{DescribedExactly, AcceptedExactly, RefusedByLowest, OneTreeEach, NameByIndex, IndexByName}
-use Rattle.soundness.specs.Meaning.{NameInFile, NoSuchName, EmptyName, IndexBelow, NamesRefused}
+use Rattle.soundness.specs.Meaning.{Lowest, OnlyCheck, NameInFile, NoSuchName, EmptyName, IndexBelow, NamesRefused}
 use Rattle.soundness.specs.ManifestGrammar.{Contents, IsManifest, manifest, counted}
 use Rattle.bundle.proofs.Rows.{Ascends, clear-first, first-clear}
-use Rattle.soundness.proofs.Lowest.{first-lowest}
+use Rattle.soundness.proofs.Lowest.{first-lowest, one-lowest}
 use Rattle.soundness.proofs.Each.{each-exactly}
 use Rattle.soundness.proofs.File.{few-nodes, clear-described, clear-sound, described-clear, sound-clear}
 use Rattle.soundness.proofs.Calls.{names-length, found-there, name-read, part-inside, index-asked, asked-name}
@@ -57,6 +58,15 @@ pub refused-by-lowest : RefusedByLowest
 unfolding nameRefusal refusal
 refused-by-lowest file =
     (first-lowest 0 (nameChecks file) (names-ascend file), first-lowest 0 (checks file) (ascending file))
+
+pub only-check : OnlyCheck
+only-check call accepts lowest file = go (lowest file) (refused-by-lowest file .1)
+  where
+    go : (call file ≡ 0) ⊎ Lowest (checks file) (call file) → (refusal file ≡ 0) ⊎ Lowest (checks file) (refusal file) →
+        call file ≡ refusal file
+    go (inl e) _ = e ∙ sym (accepted-exactly file .1 (accepts file .0 e))
+    go (inr l) (inl e) = accepts file .1 (accepted-exactly file .0 e) ∙ sym e
+    go (inr l) (inr m) = one-lowest l m
 
 pub one-tree-each : OneTreeEach
 one-tree-each file sound r a =

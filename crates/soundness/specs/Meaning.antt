@@ -19,8 +19,11 @@ use Rattle.soundness.specs.Sound.{Described, Sound}
 abbrev pub DescribedExactly : Type 0
 DescribedExactly = (file : List ℕ) → (nameRefusal file ≡ 0) ↔ Described file
 
+abbrev pub AcceptsExactly : (List ℕ → ℕ) → Type 0
+AcceptsExactly call = (file : List ℕ) → (call file ≡ 0) ↔ Sound file
+
 abbrev pub AcceptedExactly : Type 0
-AcceptedExactly = (file : List ℕ) → (refusal file ≡ 0) ↔ Sound file
+AcceptedExactly = AcceptsExactly refusal
 
 -- a check that applies, with no lower number that does
 pub record Lowest (cs : List Check) (n : ℕ) : Type 0 where
@@ -36,6 +39,13 @@ RefusedByLowest =
     (file : List ℕ) →
     ((nameRefusal file ≡ 0) ⊎ Lowest (nameChecks file) (nameRefusal file)) ×
     ((refusal file ≡ 0) ⊎ Lowest (checks file) (refusal file))
+
+-- nothing is left open: a check that accepts exactly the sound files and answers any other by the lowest number is this one
+abbrev pub OnlyCheck : Type 0
+OnlyCheck =
+    (call : List ℕ → ℕ) → AcceptsExactly call →
+    ((file : List ℕ) → (call file ≡ 0) ⊎ Lowest (checks file) (call file)) →
+    (file : List ℕ) → call file ≡ refusal file
 
 -- in a sound file the hash of every record names exactly one tree
 abbrev pub OneTreeEach : Type 0
