@@ -56,7 +56,7 @@ pub record Demand2 : Type 0 where
   pub accepted : AcceptedExactly
   pub refused : RefusedByLowest
   pub fits : FitsExactly
-  -- nothing is left open: no other call keeps these promises
+  -- nothing is left open: no other call keeps these promises and leaves the bundle's trees
   pub only-load : OnlyLoad
   -- the same of the check alone, 1 to 20, and of the names, 1 to 14
   pub checked : checks.AcceptedExactly

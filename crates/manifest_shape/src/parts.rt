@@ -44,7 +44,7 @@ fn text_end(s: &[u8], at: usize, n: usize) -> Parsed
 }
 
 // A string: a u32 byte length and that many bytes of UTF-8.
-pub fn string_end(s: &[u8], at: usize) -> Parsed
+fn string_end(s: &[u8], at: usize) -> Parsed
     ensures { λ r. ⌜ r ≡ stringEnd (now (s .entry)) at ⌝ }
 {
     match wire::u32_at(s, at) {
@@ -54,7 +54,7 @@ pub fn string_end(s: &[u8], at: usize) -> Parsed
 }
 
 // A root: 32 raw hash bytes and a role string.
-pub fn root_end(s: &[u8], at: usize) -> Parsed
+fn root_end(s: &[u8], at: usize) -> Parsed
     ensures { λ r. ⌜ r ≡ rootEnd (now (s .entry)) at ⌝ }
 {
     match bytes_end(s, at, 32) {
@@ -64,7 +64,7 @@ pub fn root_end(s: &[u8], at: usize) -> Parsed
 }
 
 // An export: a name string, 32 raw hash bytes, a kind string, an abi string.
-pub fn export_end(s: &[u8], at: usize) -> Parsed
+fn export_end(s: &[u8], at: usize) -> Parsed
     ensures { λ r. ⌜ r ≡ exportEnd (now (s .entry)) at ⌝ }
 {
     match string_end(s, at) {
