@@ -1,4 +1,4 @@
-# What is for C. The Rattle kit proves and builds the archive; the rest needs a C compiler, and Python for tests/header.py.
+# What is for C. The Rattle kit proves and builds the archive; the rest needs a C compiler, and Python for tests/header.py and fixtures/.
 #
 #   make            the archive, target/staticlib/libarboricx.a
 #   make host       target/c/play, which plays an opponent out of a bundle
@@ -16,7 +16,7 @@ TESTS = $(wildcard tests/*.c)
 BENCH = $(wildcard bench/*.c) tests/reference.c
 HEADERS = $(wildcard include/*.h tests/*.h bench/*.h)
 
-.PHONY: archive host test test-full header example played faults bench
+.PHONY: archive host test test-full header example played faults fixtures bench
 archive:
 	@mkdir -p $(OUT)
 	@rt staticlib arboricx >$(OUT)/archive.log 2>&1 || { cat $(OUT)/archive.log; exit 1; }
@@ -42,11 +42,11 @@ $(OUT)/compare-sanitized: $(TESTS) $(HEADERS) $(ARCHIVE)
 $(OUT)/compare-faults: $(TESTS) $(HEADERS) $(ARCHIVE)
 	$(CC) $(CFLAGS) -DREFERENCE_FAULTS $(TESTS) $(ARCHIVE) -o $@
 
-test: header example played faults $(OUT)/compare $(OUT)/compare-sanitized
+test: header example played faults fixtures $(OUT)/compare $(OUT)/compare-sanitized
 	$(OUT)/compare --seed $(SEED) --count 40000
 	$(OUT)/compare-sanitized --seed $(SEED) --count 8000
 
-test-full: header example played faults $(OUT)/compare $(OUT)/compare-sanitized
+test-full: header example played faults fixtures $(OUT)/compare $(OUT)/compare-sanitized
 	$(OUT)/compare --seed $(SEED) --count 250000 --zeros 1
 	$(OUT)/compare-sanitized --seed $(SEED) --count 50000
 
@@ -65,6 +65,10 @@ played: $(OUT)/play
 # A reference that is wrong in one way is found out; each way is tried.
 faults: $(OUT)/compare-faults
 	sh tests/faults.sh $(OUT)/compare-faults
+
+# The stored inputs and outputs of the test programs are those that their generators make.
+fixtures:
+	sh tests/fixtures.sh $(OUT)/fixtures
 
 # ---- the bench
 
