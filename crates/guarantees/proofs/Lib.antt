@@ -11,7 +11,6 @@ pub mod OneStore
 pub mod SessionSimulates
 pub mod PlacingOrder
 pub mod WrittenSlots
-pub mod OneHash
 pub mod LoadedTable
 pub mod LoadVerdict
 pub mod LoadAccepted

@@ -32,7 +32,7 @@ use Rattle.loader.specs.Load.{unfit, loadRefusal, loaded, exportsWritten, accep
 use Rattle.guarantees.specs.Order.{TreesOf, none, more}
 use Rattle.guarantees.specs.Load.{NamedSlot, Loads, LoadLeaves}
 use Rattle.guarantees.proofs.PlacingOrder.{among-hash, placing-among, order, order-long, in-order}
-use Rattle.guarantees.proofs.OneHash.{one-leaf}
+use Rattle.soundness.proofs.NodesHashes.{one-leaf}
 use Rattle.guarantees.proofs.LoadedTable.{named-holds, slot-order, written-untouched, table-holds}
 use Rattle.guarantees.proofs.LoadVerdict.{fitting, unrefused-exactly, load-unrefused, load-refused}
 use Rattle.guarantees.proofs.LoadAccepted.{nodes-read, exports-read, unrefused-loadable}

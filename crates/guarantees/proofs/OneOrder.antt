@@ -15,7 +15,7 @@ use Rattle.soundness.proofs.NodesTrees.{one-tree}
 use Rattle.guarantees.specs.Order.{Earliest, Placing, leaf-record, next-record, Order, TreesOf, none, more}
 use Rattle.guarantees.specs.Load.{OneOrder, OneStart}
 use Rattle.guarantees.proofs.PlacingOrder.{among-join, placing-among}
-use Rattle.guarantees.proofs.OneHash.{one-hash, one-leaf}
+use Rattle.soundness.proofs.NodesHashes.{one-hash, one-leaf}
 use Rattle.guarantees.proofs.LoadAccepted.{nodes-read}
 
 -- two elements of one list are the same, or one stands before the other

@@ -1,10 +1,10 @@
 -- A store in which no tree stands twice is held by one table alone: each tree has one slot, so each slot the same words.
-use Prim.Native.Nat.{ℕ, _+_, _*_, _/_, _%_, _<_}
+use Prim.Native.Nat.{ℕ, _+_, _*_, _<_}
 use mathlib.Core.Path.{_≡_, sym, ap, _∙_}
 use mathlib.Core.List.{List}
 use native.Mathlib.Omega.{arith}
 use native.Mathlib.Nat.{zero-add}
-use native.Mathlib.Decide.{decLt, ℕ-discrete}
+use native.Mathlib.Decide.{decLt}
 use lib.ListN.{length, getD}
 use lib.Seq.{ext-getD}
 use Rattle.wire.specs.Relations.{Distinct}
@@ -12,18 +12,9 @@ use Rattle.wire.proofs.Index.{distinct-index}
 use Rattle.calculus.specs.Tree.{Tree, leaf}
 use Rattle.table.specs.Slots.{width, firstAt, secondAt, SameSlots}
 use Rattle.table.specs.Holds.{Holds, holds-leaf, holds-stem, holds-fork, Untouched}
+use Rattle.table.proofs.SlotLaws.{same-below}
 use Rattle.table.proofs.HoldsLaws.{held-below, one-tree, from-at}
 use Rattle.guarantees.specs.Session.{Holding}
-
--- where the first n slots have the same words, so has the table up to there
-same-below : (n : ℕ) (w v : List ℕ) → SameSlots n w v → (k : ℕ) → k < width * n → getD w k 0 ≡ getD v k 0
-unfolding firstAt secondAt
-same-below n w v same k l =
-    let (first, second) = same (k / width) (omega arith) in
-    elim (ℕ-discrete (k % width) 0) [
-      | yes e ↦ let z : width * (k / width) ≡ k = omega arith in rw z at first
-      | no e ↦ let z : width * (k / width) + 1 ≡ k = omega (arith, e) in rw z at second
-    ]
 
 module _ (n : ℕ) (store : List Tree) (apart : Distinct store) where
   -- the tree that slot k holds is at place k of the store
@@ -59,6 +50,6 @@ module _ (n : ℕ) (store : List Tree) (apart : Distinct store) where
     one-table u a b =
         ext-getD 0 w v (a .long ∙ sym (b .long)) (λ k l.
         elim (decLt k (width * n)) [
-          | yes h ↦ same-below n w v same-slots k h
+          | yes h ↦ same-below w v same-slots k h
           | no h ↦ a .over k (omega (arith, h)) ∙ sym (b .over k (omega (arith, h)))
         ])

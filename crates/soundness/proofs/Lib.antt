@@ -9,6 +9,7 @@ pub mod NodesFormat
 pub mod NodesTests
 pub mod NodesCircles
 pub mod NodesTrees
+pub mod NodesHashes
 pub mod NodesMeaning
 pub mod Each
 pub mod Directory

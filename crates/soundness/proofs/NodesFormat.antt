@@ -48,11 +48,11 @@ tag-payload : (tag : ℕ) (q : List ℕ) → tag ≤ 2 → length q ≡ 32 * tag
 tag-payload zero [] h l = ([], leaf)
 tag-payload zero (x ∷ q) h l = absurd (omega arith)
 tag-payload (suc zero) q h l = (q ∷ [], stem l)
-tag-payload (suc (suc zero)) q h l = (
-  take 32 q ∷ drop 32 q ∷ [],
-  subst (λ (z : List ℕ). IsPayload (take 32 q ∷ drop 32 q ∷ []) (2 ∷ z)) (take-append-drop 32 q)
-      (fork (simp length-take (omega arith)) (simp length-drop (omega arith))),
-)
+tag-payload (suc (suc zero)) q h l =
+    let first : length (take 32 q) ≡ 32 = simp length-take (omega arith) in
+    let second : length (drop 32 q) ≡ 32 = simp length-drop (omega arith) in
+    subst (λ (z : List ℕ). (cs : List (List ℕ)) × IsPayload cs (2 ∷ z)) (take-append-drop 32 q)
+    (_, fork {a = take 32 q} {b = drop 32 q} first second)
 tag-payload (suc (suc (suc n))) q h l = absurd (omega arith)
 
 payload-tag : {cs : List (List ℕ)} {p : List ℕ} → IsPayload cs p →

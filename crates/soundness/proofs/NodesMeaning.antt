@@ -6,22 +6,28 @@ use Rattle.nodes.specs.Links.{placedOf}
 use Rattle.soundness.specs.NodesMeaning.{
   ShapedExactly,
   ReadsNodes,
+  ReadsChildren,
   HashedExactly,
   DistinctExactly,
   ClosedExactly,
   CircularExactly,
   OneTreeEach,
+  OneHashEach,
 }
 use Rattle.soundness.proofs.NodesFormat.{shaped-nodes, nodes-shaped}
 use Rattle.soundness.proofs.NodesTests.{right-exactly, once-exactly, there-exactly}
 use Rattle.soundness.proofs.NodesCircles.{short-exactly, circular-iff}
 use Rattle.soundness.proofs.NodesTrees.{one-tree, all-named}
+use Rattle.soundness.proofs.NodesHashes.{payload-children, one-hash}
 
 pub shaped-exactly : ShapedExactly
 shaped-exactly s = (shaped-nodes s, λ h. nodes-shaped (h .1) .0)
 
 pub reads-nodes : ReadsNodes
 reads-nodes s rs h = nodes-shaped h .1
+
+pub reads-children : ReadsChildren
+reads-children p cs i = payload-children i
 
 pub hashed-exactly : HashedExactly
 hashed-exactly rs = right-exactly rs rs
@@ -40,3 +46,6 @@ one-tree-each rs few apart closed none r a =
     let whole : placedOf rs .count < length rs → ⊥ = λ l. none (short-exactly rs apart closed few .0 l) in
     let (t, n) = all-named rs closed few (omega arith) a in
     (t, n, λ u m. one-tree rs apart m n)
+
+pub one-hash-each : OneHashEach
+one-hash-each s rs are hashed h g t n m = one-hash rs are hashed n m

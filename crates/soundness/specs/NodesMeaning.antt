@@ -9,10 +9,10 @@ use Rattle.wire.specs.Relations.{Among, Distinct}
 use Rattle.sizes.specs.Sizes.{nodesSize}
 use Rattle.calculus.specs.Tree.{Tree}
 use Rattle.nodes.specs.declared.faults.Fault.the-variants.{Hash, Twice, Child as NoChild}
-use Rattle.nodes.specs.Records.{Node, children, shaped, nodesOf, nodeHash, hashes, someFaulty}
+use Rattle.nodes.specs.Records.{Node, childrenOf, children, shaped, nodesOf, nodeHash, hashes, someFaulty}
 use Rattle.nodes.specs.Links.{circular}
 use Rattle.soundness.specs.Graph.{Circle, Names}
-use Rattle.soundness.specs.NodesGrammar.{IsNodes}
+use Rattle.soundness.specs.NodesGrammar.{IsPayload, IsNodes}
 
 -- each record carries the hash of its payload
 abbrev pub Hashed : List Node → Type 0
@@ -28,6 +28,10 @@ ShapedExactly = (s : List ℕ) → (shaped s ≡ true) ↔ ((rs : List Node) × 
 
 abbrev pub ReadsNodes : Type 0
 ReadsNodes = (s : List ℕ) (rs : List Node) → IsNodes rs s → nodesOf s ≡ rs
+
+-- the children that are read of a payload are those that it names, in its order
+abbrev pub ReadsChildren : Type 0
+ReadsChildren = (p : List ℕ) (cs : List (List ℕ)) → IsPayload cs p → childrenOf p ≡ cs
 
 -- nor 16 where each record carries its hash, nor 17 where no two carry one, nor 18 where every child is there
 abbrev pub HashedExactly : Type 0
@@ -49,3 +53,9 @@ abbrev pub OneTreeEach : Type 0
 OneTreeEach =
     (rs : List Node) → length rs ≤ nodesSize .most → Distinct (hashes rs) → Closed rs → (Circle rs → ⊥) →
     (r : Node) → Among r rs → (t : Tree) × Names rs (r .hash) t × ((u : Tree) → Names rs (r .hash) u → u ≡ t)
+
+-- and no two hashes name one tree, where 15 and 16 do not hold
+abbrev pub OneHashEach : Type 0
+OneHashEach =
+    (s : List ℕ) (rs : List Node) → IsNodes rs s → Hashed rs →
+    (h g : List ℕ) (t : Tree) → Names rs h t → Names rs g t → h ≡ g

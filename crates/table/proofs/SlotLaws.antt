@@ -1,11 +1,11 @@
 -- Laws of slots: what a slot holds after a node was written, and which numbers name a slot.
-use Prim.Native.Nat.{ℕ, _+_, _*_, _/_, _≤_, _<_}
+use Prim.Native.Nat.{ℕ, _+_, _*_, _/_, _%_, _≤_, _<_}
 use mathlib.Core.Path.{_≡_, refl, sym, ap, _∙_}
 use mathlib.Core.Bool.{Bool, true, false, cond}
 use mathlib.Core.List.{List}
 use native.Mathlib.Omega.{arith}
 use native.Mathlib.Numerals.{add-one}
-use native.Mathlib.Decide.{decLt}
+use native.Mathlib.Decide.{decLt, ℕ-discrete}
 use lib.ListN.{length, getD, length-set}
 use lib.Seq.{getD-set-same, getD-set-other}
 use lib.Dec.{ltb}
@@ -127,6 +127,16 @@ module _ {n : ℕ} (w v : List ℕ) (same : SameSlots n w v) where
   pub same-node : (i : ℕ) → i < n → nodeAt w i ≡ nodeAt v i
   unfolding nodeAt
   same-node i h = rw (same i h .0, same i h .1)
+
+  -- are the same up to there, word by word
+  pub same-below : (k : ℕ) → k < width * n → getD w k 0 ≡ getD v k 0
+  unfolding firstAt secondAt
+  same-below k l =
+      let (first, second) = same (k / width) (omega arith) in
+      elim (ℕ-discrete (k % width) 0) [
+        | yes e ↦ let z : width * (k / width) ≡ k = omega arith in rw z at first
+        | no e ↦ let z : width * (k / width) + 1 ≡ k = omega (arith, e) in rw z at second
+      ]
 
   -- and have the same words in one slot more where the same node is written
   pub same-put : (node : Node) → n < room w → n < room v → SameSlots (n + 1) (putNode w n node) (putNode v n node)

@@ -1,4 +1,5 @@
--- The records of a sound bundle differ in their children. So just one has none, the leaf's; and just one hash names a tree.
+-- The children of a record are those that its payload names, and no two records have the same. So just one has none, the leaf's;
+-- and just one hash names a tree.
 use Prim.Native.Nat.{ℕ}
 use mathlib.Core.Path.{_≡_, refl, sym, ap, _∙_}
 use mathlib.Core.List.{List, [], _∷_, _++_}
@@ -11,12 +12,12 @@ use Rattle.calculus.specs.Tree.{Tree}
 use Rattle.nodes.specs.Records.{Node, childrenOf, children, nodeHash, hashes}
 use Rattle.nodes.proofs.Payloads.{children-none, children-one, children-two}
 use Rattle.nodes.proofs.Children.{one-record}
 use Rattle.soundness.specs.Graph.{Names, names-leaf, names-stem, names-fork}
 use Rattle.soundness.specs.NodesGrammar.{IsPayload, leaf, stem, fork, IsRecord, node, IsNodes, nodes}
 use Rattle.soundness.specs.NodesMeaning.{Hashed}
 
--- the children of a payload are those that it says, and tell which payload it is
-payload-children : {cs : List (List ℕ)} {p : List ℕ} → IsPayload cs p → childrenOf p ≡ cs
+-- the children that are read of a payload are those that it names, and tell which payload it is
+pub payload-children : {cs : List (List ℕ)} {p : List ℕ} → IsPayload cs p → childrenOf p ≡ cs
 payload-children leaf = children-none (0 ∷ []) (omega arith) (omega arith)
 payload-children (stem {a = a} l) =
     children-one (1 ∷ a) (sym (take-all 32 a (omega arith)) ∙ span-in (1 ∷ a) 1 32 (omega arith)) (omega arith)
