@@ -1,4 +1,4 @@
--- Cases of document 01 on the two tables, one statement over one list.
+-- Cases of document 01 on the two tables, and further ones, one statement over one list.
 use Prim.Native.Nat.{ℕ}
 use mathlib.Core.Path.{_≡_}
 use mathlib.Core.List.{List, [], _∷_, map}
@@ -11,8 +11,15 @@ use Rattle.engine.specs.Answer.{Numbers, numbers}
 abbrev pub table : List ℕ → List ℕ
 table free = 7 ∷ 7 ∷ 0 ∷ 0 ∷ 1 ∷ 0 ∷ 2 ∷ 0 ∷ 3 ∷ 1 ∷ 4 ∷ 0 ∷ 5 ∷ 4 ∷ free
 
--- what is asked, with 6 used slots, 9 in each free word and 8 in each word of the frame table; what is left, and the answer
+-- the slots of L, stem L, stem (stem L), fork (stem L, stem (stem L)) and the fork of that and L
+abbrev pub other : List ℕ → List ℕ
+other free = 7 ∷ 7 ∷ 0 ∷ 0 ∷ 1 ∷ 0 ∷ 2 ∷ 0 ∷ 2 ∷ 3 ∷ 4 ∷ 1 ∷ free
+
+-- what is asked, of which table and how many used slots, with 9 in each free word and 8 in each word of the frame table;
+-- what is left, and the answer
 pub record Case : Type 0 where
+  pub of : List ℕ → List ℕ
+  pub used : ℕ
   pub base : ℤ
   pub f : ℤ
   pub x : ℤ
@@ -33,10 +40,10 @@ seen (ran w j a) = record { words = w; frames = j; answer = numbers a }
 
 abbrev pub given : Case → Seen
 given c =
-    seen (run (table (replicate (c .free) 9)) (c .base) (c .f) (c .x) 6 (c .fuel) (replicate (c .jobs) 8))
+    seen (run (c .of (replicate (c .free) 9)) (c .base) (c .f) (c .x) (c .used) (c .fuel) (replicate (c .jobs) 8))
 
 abbrev pub wanted : Case → Seen
-wanted c = record { words = table (c .words); frames = c .frames; answer = c .answer }
+wanted c = record { words = c .of (c .words); frames = c .frames; answer = c .answer }
 
 -- number, result, f, x, steps, used, waiting
 abbrev pub says : ℕ → ℕ → ℕ → ℕ → ℕ → ℕ → ℕ → Numbers
@@ -52,9 +59,11 @@ says number slot f x steps used waiting =
     }
 
 -- a run of f on x behind the two words: fuel, free words, words of the frame table; then what they become, and the answer
-abbrev pub runs : ℕ → ℕ → ℕ → ℕ → ℕ → List ℕ → List ℕ → Numbers → Case
-runs f x fuel free jobs words frames answer =
+abbrev pub runsOf : (List ℕ → List ℕ) → ℕ → ℕ → ℕ → ℕ → ℕ → ℕ → List ℕ → List ℕ → Numbers → Case
+runsOf of used f x fuel free jobs words frames answer =
     record {
+      of = of;
+      used = used;
       base = pos 2;
       f = pos f;
       x = pos x;
@@ -66,10 +75,15 @@ runs f x fuel free jobs words frames answer =
       answer = answer;
     }
 
+abbrev pub runs : ℕ → ℕ → ℕ → ℕ → ℕ → List ℕ → List ℕ → Numbers → Case
+runs = runsOf table 6
+
 -- a call that is refused, on a table with one free slot
 abbrev pub refuses : ℤ → ℤ → ℤ → ℕ → Case
 refuses base f x number =
     record {
+      of = table;
+      used = 6;
       base = base;
       f = f;
       x = x;
@@ -99,6 +113,16 @@ cases =
     ∷ refuses (negsuc 0) (pos 0) (pos 0) 21
     ∷ refuses (pos 16) (pos 0) (pos 0) 21
     ∷ refuses (pos 0) (pos 0) (pos 0) 24
+    -- no fuel, no slot and no place at once
+    ∷ runs 0 0 0 0 0 [] [] (says 31 0 0 0 0 6 0)
+    ∷ runs 5 5 0 0 0 [] [] (says 31 0 5 5 0 6 0)
+    -- 5, 6 and 7 on a fork of a fork, whose parts differ
+    ∷ runsOf other 5 4 0 100 2 3 (replicate 2 9) (replicate 3 0) (says 0 1 0 0 1 5 0)
+    ∷ runsOf other 5 4 1 100 2 3 (2 ∷ 1 ∷ []) (replicate 3 0) (says 0 5 0 0 2 6 0)
+    ∷ runsOf other 5 4 3 100 4 3 (2 ∷ 0 ∷ 2 ∷ 3 ∷ []) (replicate 3 0) (says 0 6 0 0 3 7 0)
+    -- a stop while "then the result to v" waits, where v is not slot 0
+    ∷ runsOf other 5 4 3 1 4 7 (replicate 4 9) (2 ∷ 2 ∷ 0 ∷ replicate 4 0) (says 31 0 0 1 1 5 1)
+    ∷ runsOf other 5 4 3 100 1 3 (9 ∷ []) (2 ∷ 2 ∷ 0 ∷ []) (says 32 0 0 1 1 5 1)
     ∷ []
 
 abbrev pub CasesHold : Type 0

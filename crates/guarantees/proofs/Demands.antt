@@ -1,29 +1,35 @@
 -- The three demands hold.
 use Prim.Native.Nat.{ℕ}
-use mathlib.Core.Path.{_≡_, sym, ap, _∙_}
-use mathlib.Core.List.{List, _++_}
-use lib.ListN.{length, take, drop, take-append-drop}
-use lib.Seq.{length-take-le}
-use Rattle.calculus.specs.Tree.{Tree}
+use mathlib.Core.List.{List}
+use lib.ListN.{drop}
+use lib.IntN.{ℤ}
 use Rattle.table.specs.Slots.{room}
 use Rattle.table.proofs.SlotLaws.{room-long}
 use Rattle.soundness.proofs.Meaning.{names-refused, name-by-index, no-such-name}
 use Rattle.soundness.proofs.Meaning as checks
-use Rattle.loader.specs.Answer.{numbers}
-use Rattle.guarantees.specs.Session.{Request, Holding, AllAlike}
-use Rattle.guarantees.specs.Demands.{Demand1, Demand2, AllRuns, Demand3}
+use Rattle.engine.specs.Run.{run}
+use Rattle.soundness.proofs.Applies.{number-exactly, none-exactly}
+use Rattle.loader.specs.Answer.{Numbers, numbers}
+use Rattle.guarantees.specs.Session.{Request, Bring, AllAlike}
+use Rattle.guarantees.specs.Load.{Loads}
+use Rattle.guarantees.specs.Demands.{Demand1, Demand2, AllRuns, OnlyRuns, Demand3}
 use Rattle.guarantees.proofs.RefusalKeeps.{refusal-keeps}
 use Rattle.guarantees.proofs.RefusedExactly.{refused-exactly}
 use Rattle.guarantees.proofs.BaseBlind.{base-blind}
+use Rattle.guarantees.proofs.RunSimulates.{run-simulates}
 use Rattle.guarantees.proofs.DoneStays.{done-stays}
 use Rattle.guarantees.proofs.SessionSimulates.{session-simulates}
+use Rattle.guarantees.proofs.SessionBlind.{session-blind}
 use Rattle.guarantees.proofs.LoadVerdict.{fits-exactly}
 use Rattle.guarantees.proofs.LoadAccepted.{accepted-exactly, refused-by-lowest}
 use Rattle.guarantees.proofs.LoadBlind.{load-blind}
 use Rattle.guarantees.proofs.LoadLeaves.{load-leaves}
 use Rattle.guarantees.proofs.OneOrder.{one-order, one-start}
 use Rattle.guarantees.proofs.OnlyLoad.{only-load}
-use Rattle.guarantees.proofs.RunZero.{has-leaf, run-zero}
+use Rattle.guarantees.proofs.JobsSound.{jobs-sound}
+use Rattle.guarantees.proofs.OnlyRun.{only-run}
+use Rattle.guarantees.proofs.OnlySession.{only-session}
+use Rattle.guarantees.proofs.RunZero.{leaf-in, run-zero}
 
 pub demand-1 : Demand1
 demand-1 =
@@ -38,7 +44,7 @@ demand-1 =
       run-blind = base-blind;
       load-zero = λ file words words′ base exports exports′ a e z.
           let l = load-leaves file words words′ base exports exports′ a e z in
-          (l .at, l .base-is, has-leaf (l .holding .zero));
+          (l .at, l .base-is, leaf-in (l .holding .slots .fits) (l .holding .zero));
       run-zero = run-zero;
     }
 
@@ -52,27 +58,47 @@ demand-2 =
       checked = checks.accepted-exactly;
       described = checks.described-exactly;
       by-lowest = checks.refused-by-lowest;
+      by-number = number-exactly;
+      by-none = none-exactly;
       only-check = checks.only-check;
     }
 
 -- the requests start from what the load left
-module _ (before w v : List ℕ) (b most used : ℕ) (store : List Tree) where
-  goes-on : length before ≡ b → before ++ w ≡ v → most ≡ room w → Holding w used store → (requests : List Request) →
-      AllAlike b most before (record { words = v; used = used }) store requests
-  goes-on long whole same good requests =
-      rw (← long, ← whole, same) (session-simulates before w used store good requests)
+module _ {file words words′ : List ℕ} {base : ℤ} {exports exports′ : List ℕ} {n : Numbers}
+    (l : Loads file words base exports words′ exports′ n) where
+  goes-on : (requests : List Request) → Bring (l .at) requests →
+      AllAlike run (l .at) (room (drop (l .at) words)) (record { words = drop (l .at) words′; used = n .nodes })
+      (l .store) requests
+  goes-on =
+      let v = drop (l .at) words′ in
+      rw (← room-long (drop (l .at) words) v (l .untouched .long))
+      (session-simulates run refused-exactly run-simulates v (n .nodes) (l .store) (l .holding) (l .at))
 
-all-runs : AllRuns
+all-runs : AllRuns run
 all-runs file words words′ base exports exports′ a e z =
     let l = load-leaves file words words′ base exports exports′ a e z in
-    let v = drop (l .at) words′ in (
-      l,
-      goes-on (take (l .at) words) v words′ (l .at) (room (drop (l .at) words)) (numbers a .nodes) (l .store)
-          (length-take-le (l .at) words (l .inside))
-          (ap (λ (x : List ℕ). x ++ v) (sym (l .before)) ∙ take-append-drop (l .at) words′)
-          (sym (room-long (drop (l .at) words) v (l .untouched .long)))
-          (l .holding),
+    (l, goes-on l)
+
+only-runs : OnlyRuns
+only-runs call all file words words′ base exports exports′ a e z =
+    let (l, alike) = all file words words′ base exports exports′ a e z in (
+      l .at,
+      l .base-is,
+      λ requests bring.
+          only-session call run (l .at) (room (drop (l .at) words))
+          (record { words = drop (l .at) words′; used = numbers a .nodes }) (l .store) requests bring (alike requests bring)
+          (goes-on l requests bring),
     )
 
 pub demand-3 : Demand3
-demand-3 = record { all-runs = all-runs; one-order = one-order; one-start = one-start; done-stays = done-stays }
+demand-3 =
+    record {
+      all-runs = all-runs;
+      one-order = one-order;
+      one-start = one-start;
+      done-stays = done-stays;
+      session-blind = session-blind;
+      jobs-sound = jobs-sound;
+      only-runs = only-runs;
+      only-run = only-run;
+    }

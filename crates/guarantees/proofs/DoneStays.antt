@@ -1,11 +1,11 @@
 -- A done run stays done: each of its steps is the same with more room, and so, by the fuel, is its end.
 use Prim.Native.Nat.{ℕ, zero, suc, _≤_, _<_}
-use mathlib.Core.Path.{_≡_, refl, sym, ap, _∙_}
+use mathlib.Core.Path.{_≡_, refl, sym, ap, _∙_, subst}
 use mathlib.Core.List.{List, _++_}
 use native.Mathlib.Omega.{arith}
 use lib.Dec.{ltb, eqb}
 use lib.ListN.{length, drop}
-use lib.IntN.{ℤ}
+use lib.IntN.{ℤ, pos}
 use lib.Seq.{drop-append-seam}
 use borrow.Author.Tests.{le-ltb, ltb-false}
 use Rattle.table.specs.declared.slots.Slot.{Slot}
@@ -24,12 +24,14 @@ use Rattle.engine.specs.declared.Admission.{Admission}
 use Rattle.engine.specs.declared.RunAnswer.{RunAnswer}
 use Rattle.engine.specs.declared.RunAnswer.the-variants.{Refused, Done, Stopped}
 use Rattle.engine.specs.Step.{Stepped, at, step}
-use Rattle.engine.specs.Run.{Ran, ran, resumeAs, resume, drive, admitAt, admit, start, runTail, behind}
+use Rattle.engine.specs.Run.{Ran, ran, resumeAs, resume, drive, admitAt, admit, start, runTail, behind, run}
+use Rattle.engine.specs.Answer.{numbers}
 use Rattle.engine.specs.Ready.{Ready, Waits}
 use Rattle.table.proofs.Tests.{by-test}
 use Rattle.engine.proofs.Keeps.{Left, step-keeps, waits-none}
 use Rattle.guarantees.specs.Run.{DoneStays}
 use Rattle.guarantees.proofs.Calls.{run-behind}
+use Rattle.guarantees.proofs.Verdict.{Ended, Verdict, out, misplaced, damaged, started, verdict}
 use Rattle.guarantees.proofs.SameSteps.{SameWords, SameFrames, Unless, Same, Stays, frames-cleared, step-stays}
 
 -- if the first run is done, so is the second, with the same answer, and the used slots are the same
@@ -120,10 +122,50 @@ finish before v k slot steps used (ran w j a) (ran w′ j′ a′) e h =
     let s : EndsAs v (Done slot steps used) (ran w′ j′ a′) = rw (q, b) at h in
     (w′, j′, ap (ran w′ j′) (s .0), s .1)
 
+-- a run that is answered 0 is done
+module _ (w v j k : List ℕ) (a : RunAnswer) (z : numbers a .number ≡ 0) where
+  abbrev IsDoneRun : Type 0
+  IsDoneRun = (slot : ℤ) × (steps : ℕ) × (used : ℕ) × (a ≡ Done slot steps used)
+
+  not-refused : (n : ℕ) → (n ≡ 0 → ⊥) → ran w j (Refused n) ≡ ran v k a → IsDoneRun
+  not-refused n h e =
+      let q : Refused n ≡ a = cc in
+      absurd (h (ap (λ (x : RunAnswer). numbers x .number) q ∙ z))
+
+  ended-done : (b : RunAnswer) → a ≡ b → Ended (ran v k b) → IsDoneRun
+  ended-done (Refused n) e h = absurd h
+  ended-done (Done slot steps used) e h = (slot, steps, used, e)
+  ended-done (Stopped n f x steps used waiting) e h =
+      let q : n ≡ 0 = sym (ap (λ (x : RunAnswer). numbers x .number) e) ∙ z in
+      absurd (omega arith)
+
+  done-is : {A B C : Type 0} {r : Ran} → Verdict w j A B C r → r ≡ ran v k a → IsDoneRun
+  done-is (out o) e = not-refused 21 (omega arith) e
+  done-is (misplaced o m) e = not-refused 23 (omega arith) e
+  done-is (damaged o m d) e = not-refused 24 (omega arith) e
+  done-is (started o m d h) e = ended-done a refl (subst Ended e h)
+
 -- more fuel and room: the same answer and used slots
+module _ (before before′ w w′ v j j′ k : List ℕ) (f x : ℤ) (used fuel fuel′ : ℕ) where
+  abbrev Again : RunAnswer → Type 0
+  Again a =
+      (v′ : List ℕ) × (k′ : List ℕ)
+      × (run (before′ ++ w′) (pos (length before′)) f x used fuel′ j′ ≡ ran (before′ ++ v′) k′ a)
+      × SameSlots (numbers a .used) v v′
+
+  again : (slot : ℤ) (steps used′ : ℕ)
+      → run (before ++ w) (pos (length before)) f x used fuel j ≡ ran (before ++ v) k (Done slot steps used′)
+      → Ends (runTail w f x used fuel j) (runTail w′ f x used fuel′ j′) → Again (Done slot steps used′)
+  again slot steps used′ e ends =
+      let first = sym (run-behind before w j f x used fuel) ∙ e in
+      let r = finish before v k slot steps used′ (runTail w f x used fuel j) (runTail w′ f x used fuel′ j′) first ends in
+      (r .0, r .1, run-behind before′ w′ j′ f x used fuel′ ∙ ap (behind before′) (r .2), r .3)
+
 pub done-stays : DoneStays
-done-stays before before′ w w′ v j j′ k f x slot used used′ fuel fuel′ steps e slots h rooms places =
-    let ends = tail-stays w w′ j j′ used fuel fuel′ slots h rooms places f x in
-    let first = sym (run-behind before w j f x used fuel) ∙ e in
-    let r = finish before v k slot steps used′ (runTail w f x used fuel j) (runTail w′ f x used fuel′ j′) first ends in
-    (r .0, r .1, run-behind before′ w′ j′ f x used fuel′ ∙ ap (behind before′) (r .2), r .3)
+done-stays before before′ w w′ v j j′ k f x used fuel fuel′ a e z slots h rooms places =
+    let (slot, steps, used′, d)
+    = done-is (before ++ w) (before ++ v) j k a z (verdict (before ++ w) j (pos (length before)) f x used fuel) e
+    in
+    subst (Again before before′ w w′ v j j′ k f x used fuel fuel′) (sym d)
+    (again before before′ w w′ v j j′ k f x used fuel fuel′ slot steps used′ (rw d at e)
+    (tail-stays w w′ j j′ used fuel fuel′ slots h rooms places f x))

@@ -9,6 +9,7 @@ pub mod SameSteps
 pub mod DoneStays
 pub mod OneStore
 pub mod SessionSimulates
+pub mod SessionBlind
 pub mod PlacingOrder
 pub mod WrittenSlots
 pub mod LoadedTable
@@ -20,5 +21,9 @@ pub mod LoadLeaves
 pub mod OneTable
 pub mod OneLoad
 pub mod OnlyLoad
+pub mod Begins
 pub mod RunZero
+pub mod JobsSound
+pub mod OnlyRun
+pub mod OnlySession
 pub mod Demands

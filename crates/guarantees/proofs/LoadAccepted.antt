@@ -1,9 +1,10 @@
 -- A load is accepted exactly where no check holds, which is where the bundle is sound and fits; any other is refused by the lowest
 -- number that applies.
-use Prim.Native.Nat.{ℕ, _≤_}
+use Prim.Native.Nat.{ℕ, _≤_, _<_}
 use mathlib.Core.Path.{_≡_, refl, sym, ap, _∙_}
 use mathlib.Core.List.{List, [], _∷_}
-use mathlib.Core.Logic.{_⊎_, inl, inr}
+use mathlib.Core.Bool.{true}
+use mathlib.Core.Logic.{_↔_}
 use native.Mathlib.Omega.{arith}
 use native.Mathlib.Decide.{ℕ-discrete}
 use lib.ListN.{length}
@@ -16,26 +17,29 @@ use Rattle.nodes.specs.Records.{nodesOf}
 use Rattle.bundle.specs.Directory.{manifestSection, nodesSection}
 use Rattle.bundle.specs.Checks.{Check, firstOf, headerChecks, directoryChecks, manifestChecks, nodeChecks, nameChecks, checks}
 use Rattle.soundness.specs.Sound.{Sound}
-use Rattle.soundness.specs.Meaning.{Lowest}
+use Rattle.soundness.specs.Applies.{HasManifest, manifest, HasNodes, nodes, Applies, Smallest}
 use Rattle.soundness.proofs.ManifestMeaning.{reads-exports}
 use Rattle.soundness.proofs.NodesMeaning.{reads-nodes}
 use Rattle.soundness.proofs.File.{false-of, clear-sound, sound-clear}
-use Rattle.soundness.proofs.Lowest.{first-lowest}
+use Rattle.soundness.proofs.Sections.{described-manifest, sound-nodes, one-nodes, one-exports}
+use Rattle.soundness.proofs.Smallest.{Means, means-parts, means-map, Consecutive, first-exactly}
+use Rattle.soundness.proofs.Applies.{bounds, all-means}
 use Rattle.loader.specs.declared.LoadAnswer.the-variants.{Refused}
 use Rattle.loader.specs.Answer.{numbers}
-use Rattle.loader.specs.Load.{crowded, loadChecks, loadRefusal, Loaded, accept, acceptFrom, load}
+use Rattle.loader.specs.Load.{recordsIn, exportsIn, unfit, crowded, loadChecks, loadRefusal, Loaded, accept, acceptFrom, load}
 use Rattle.loader.proofs.Refusals.{load-ascends}
 use Rattle.guarantees.specs.Load.{Unfit, base-negative, Loadable, answerOf, AcceptedExactly, RefusedByLowest}
+use Rattle.guarantees.specs.Load.{LoadApplies, of-file, unfit as at-21, crowded as at-22}
 use Rattle.guarantees.proofs.LoadVerdict.{fits-exactly, unrefused-exactly, load-unrefused, load-refused}
 
 -- the records and exports that are read are the bundle's
 pub nodes-read : {file : List ℕ} (sound : Sound file) → nodesOf (nodesSection file) ≡ sound .nodes
-nodes-read {file} sound = reads-nodes (nodesSection file) (sound .nodes) (sound .is-nodes)
+nodes-read {file} sound = reads-nodes (nodesSection file) (sound .nodes) (sound-nodes sound)
 
 pub exports-read : {file : List ℕ} (sound : Sound file) →
     exportsOf (manifestSection file) ≡ sound .described .manifest .exports
 exports-read {file} sound =
-    reads-exports (manifestSection file) (sound .described .manifest) (sound .described .is-manifest)
+    reads-exports (manifestSection file) (sound .described .manifest) (described-manifest (sound .described))
 
 module _ (file w : List ℕ) (base : ℤ) (out : List ℕ) where
   -- ---- which are accepted
@@ -83,7 +87,7 @@ module _ (file w : List ℕ) (base : ℤ) (out : List ℕ) where
 pub accepted-exactly : AcceptedExactly
 accepted-exactly file words base exports = (accepted file words base exports, is-accepted file words base exports)
 
--- ---- the lowest number
+-- ---- the smallest number
 
 -- every number of a table is at most m
 abbrev AtMost : ℕ → List Check → Type 0
@@ -94,9 +98,71 @@ at-most : {m : ℕ} {c : Check} {cs : List Check} → AtMost m cs → Among c cs
 at-most h here = h .0
 at-most h (there a) = at-most (h .1) a
 
-load-most : (file w : List ℕ) (base : ℤ) (out : List ℕ) → AtMost 22 (loadChecks file w base out)
-unfolding loadChecks checks nameChecks headerChecks directoryChecks manifestChecks nodeChecks
-load-most file w base out = omega arith
+file-most : (file : List ℕ) → AtMost 20 (checks file)
+unfolding checks nameChecks headerChecks directoryChecks manifestChecks nodeChecks
+file-most file = omega arith
+
+module _ (file w : List ℕ) (base : ℤ) (out : List ℕ) where
+  abbrev A : ℕ → Type 0
+  A = LoadApplies file w base out
+
+  some-number : (n : ℕ) → A n → 0 < n
+  some-number n (of-file x) = bounds x .0
+  some-number _ (at-21 k u) = omega arith
+  some-number _ (at-22 k l) = omega arith
+
+  -- a number up to 20 applies where it applies to the file
+  file-applies : {n : ℕ} → n ≤ 20 → A n → Applies file n
+  file-applies h (of-file x) = x
+  file-applies h (at-21 k u) = absurd (omega arith)
+  file-applies h (at-22 k l) = absurd (omega arith)
+
+  file-means : Means A (checks file)
+  file-means =
+      means-map (Applies file) A (checks file) (λ c a. (of-file, file-applies (at-most (file-most file) a)))
+      (all-means file)
+
+  -- 21 and 22, of a sound file
+  module _ (sound : Sound file) where
+    row-21 : (unfit w base (length (recordsIn file)) ≡ true) ↔ A 21
+    row-21 = (forth, back)
+      where
+        forth : unfit w base (length (recordsIn file)) ≡ true → A 21
+        forth q =
+            at-21 (nodes (sound .nodes-section) (sound .is-nodes))
+            (rw (nodes-read sound) at (fits-exactly w out base (length (recordsIn file)) 0 .0 .0 q))
+
+        back : A 21 → unfit w base (length (recordsIn file)) ≡ true
+        back (of-file x) = absurd (omega (arith, bounds x .1))
+        back (at-21 k u) = rw (one-nodes (sound .described) k) (fits-exactly w out base _ 0 .0 .1 u)
+
+    row-22 : (crowded out (length (exportsIn file)) ≡ true) ↔ A 22
+    row-22 = (forth, back)
+      where
+        forth : crowded out (length (exportsIn file)) ≡ true → A 22
+        forth q =
+            at-22 (manifest (sound .described .manifest-section) (sound .described .is-manifest))
+            (rw (exports-read sound) at (fits-exactly w out base 0 (length (exportsIn file)) .1 .0 q))
+
+        back : A 22 → crowded out (length (exportsIn file)) ≡ true
+        back (of-file x) = absurd (omega (arith, bounds x .1))
+        back (at-22 k l) = rw (one-exports (sound .described) k) (fits-exactly w out base 0 _ .1 .1 l)
+
+  load-means : Means A (loadChecks file w base out)
+  unfolding loadChecks
+  load-means =
+      means-parts A (checks file) _ file-means
+      (λ h. let sound = clear-sound file h in (row-21 sound, λ _. (row-22 sound, λ _. tt)))
+
+  load-all : Consecutive 0 (loadChecks file w base out)
+  unfolding loadChecks checks nameChecks headerChecks directoryChecks manifestChecks nodeChecks
+  load-all = omega arith
+
+  load-smallest : (firstOf (loadChecks file w base out) ≡ 0 → ⊥) →
+      Smallest A (firstOf (loadChecks file w base out)) × (firstOf (loadChecks file w base out) ≤ 22)
+  unfolding loadChecks checks nameChecks headerChecks directoryChecks manifestChecks nodeChecks
+  load-smallest n =
+      first-exactly A some-number (loadChecks file w base out) (load-ascends file w base out) load-all load-means _ .0 (refl, n)
 
 pub refused-by-lowest : RefusedByLowest
 unfolding loadRefusal
@@ -107,22 +173,12 @@ refused-by-lowest file words words′ base exports exports′ a e n =
           absurd (n (sym (ap (λ (l : Loaded). answerOf l .number) e) ∙ q))
       | no d ↦
           let f = sym (load-refused file words base exports d) ∙ e in
-          go (cc) (cc) (cc) (first-lowest 0 (loadChecks file words base exports) (load-ascends file words base exports)) d
+          go (cc) (cc) (cc) (load-smallest file words base exports d)
     ]
   where
     go : Refused (firstOf (loadChecks file words base exports)) ≡ a → words′ ≡ words → exports′ ≡ exports →
-        (firstOf (loadChecks file words base exports) ≡ 0) ⊎
-        Lowest (loadChecks file words base exports) (firstOf (loadChecks file words base exports)) →
-        (firstOf (loadChecks file words base exports) ≡ 0 → ⊥) →
-        Lowest (loadChecks file words base exports) (numbers a .number) × (numbers a .number ≤ 22)
+        Smallest (LoadApplies file words base exports) (firstOf (loadChecks file words base exports)) ×
+        (firstOf (loadChecks file words base exports) ≤ 22) →
+        Smallest (LoadApplies file words base exports) (numbers a .number) × (numbers a .number ≤ 22)
         × (numbers a .nodes ≡ 0) × (numbers a .exports ≡ 0) × (words′ ≡ words) × (exports′ ≡ exports)
-    go q p r (inl z) d = absurd (d z)
-    go q p r (inr l) d =
-        rw (← q) (
-          l,
-          omega (arith, l .number, at-most (load-most file words base exports) (l .listed)),
-          refl,
-          refl,
-          p,
-          r,
-        )
+    go q p r l = rw (← q) (l .0, l .1, refl, refl, p, r)

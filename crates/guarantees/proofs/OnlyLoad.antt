@@ -6,7 +6,7 @@ use mathlib.Core.List.{List}
 use mathlib.Core.Logic.{_↔_}
 use native.Mathlib.Omega.{arith}
 use native.Mathlib.Decide.{ℕ-discrete}
-use Rattle.soundness.proofs.Lowest.{one-lowest}
+use Rattle.soundness.proofs.Smallest.{one-smallest}
 use Rattle.loader.specs.declared.LoadAnswer.{LoadAnswer}
 use Rattle.loader.specs.declared.LoadAnswer.the-variants.{Refused, Accepted}
 use Rattle.loader.specs.Answer.{Numbers, numbers}
@@ -44,6 +44,6 @@ only-load call accepts refuses leaves file words base exports =
               let (m, _, h, i, s, t)
               = refused-by-lowest file words v base exports o b q (λ z. d (other .1 (mine .0 z)))
               in
-              let n : numbers a ≡ numbers b = same-three (one-lowest k m) (f ∙ sym h) (g ∙ sym i) in
+              let n : numbers a ≡ numbers b = same-three (one-smallest k m) (f ∙ sym h) (g ∙ sym i) in
               λ j. loaded ((x ∙ sym s) j) ((y ∙ sym t) j) (one-answer a b (λ z. absurd (d z)) n j)
         ]

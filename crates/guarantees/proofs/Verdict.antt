@@ -1,7 +1,7 @@
 -- How a call is judged: each refusal with its reason, and none of the reasons where a run starts.
 use Prim.Native.Nat.{ℕ, zero, suc, _≤_, _<_}
 use mathlib.Core.Path.{_≡_, refl, sym, _∙_}
-use mathlib.Core.Bool.{true, false, false≢true}
+use mathlib.Core.Bool.{true, false, false≢true, or-true}
 use mathlib.Core.List.{List}
 use mathlib.Core.Logic.{_⊎_, inl, inr, ⊎-elim}
 use native.Mathlib.Omega.{arith}
@@ -9,7 +9,7 @@ use native.Mathlib.Decide.{decLt}
 use lib.ListN.{length, take, drop, take-append-drop}
 use lib.Dec.{ltb, eqb}
 use lib.IntN.{ℤ, pos, negsuc}
-use borrow.Author.Tests.{ltb-true, ltb-false, eqb-true, eqb-false}
+use borrow.Author.Tests.{ltb-true, ltb-false, eqb-true, eqb-false, le-leb}
 use Rattle.table.specs.declared.slots.Slot.{Slot}
 use Rattle.table.specs.declared.slots.Place.{Place}
 use Rattle.table.specs.declared.slots.Place.the-variants.{At, Nowhere}
@@ -28,42 +28,53 @@ use Rattle.engine.specs.declared.Admission.the-variants.{Refused as NotLet, Sta
 use Rattle.engine.specs.declared.RunAnswer.the-variants.{Refused, Done, Stopped}
 use Rattle.engine.specs.Step.{Stepped, at, step}
 use Rattle.engine.specs.Run.{Ran, ran, resumeAs, resume, drive, admitAt, admit, start, runTail, behind, run}
+use Rattle.engine.specs.Answer.{numbers}
+use Rattle.guarantees.specs.Run.{started as let-start}
 use Rattle.guarantees.specs.Run.{OutOfTable, base-negative, base-past, none-used, above-room}
 use Rattle.guarantees.specs.Run.{Misplaced, negative, not-used, Damaged}
 
 -- ---- a run that starts is not refused
 
--- the answer is no refusal
-abbrev pub Unrefused : Ran → Type 0
-Unrefused (ran w j (Refused n)) = ⊥
-Unrefused (ran w j (Done slot steps used)) = Unit {0}
-Unrefused (ran w j (Stopped n f x steps used waiting)) = Unit {0}
+-- the answer is done, or a stop with a stop's number
+abbrev pub Ended : Ran → Type 0
+Ended (ran w j (Refused n)) = ⊥
+Ended (ran w j (Done slot steps used)) = Unit {0}
+Ended (ran w j (Stopped n f x steps used waiting)) = 31 ≤ n
 
-behind-unrefused : (before : List ℕ) (r : Ran) → Unrefused r → Unrefused (behind before r)
-behind-unrefused before (ran w j (Refused n)) h = h
-behind-unrefused before (ran w j (Done slot steps used)) h = h
-behind-unrefused before (ran w j (Stopped n f x steps used waiting)) h = h
+-- its numbers are those of a run that was let start
+abbrev pub Unrefused : Ran → Type 0
+Unrefused (ran w j a) = let-start (numbers a) ≡ true
+
+pub unrefused : (r : Ran) → Ended r → Unrefused r
+unrefused (ran w j (Refused n)) h = absurd h
+unrefused (ran w j (Done slot steps used)) h = refl
+unrefused (ran w j (Stopped n f x steps used waiting)) h = rw (le-leb 31 n h, or-true)
+
+behind-ended : (before : List ℕ) (r : Ran) → Ended r → Ended (behind before r)
+behind-ended before (ran w j (Refused n)) h = h
+behind-ended before (ran w j (Done slot steps used)) h = h
+behind-ended before (ran w j (Stopped n f x steps used waiting)) h = h
 
 module _ (rest : ℕ → List ℕ → List ℕ → State → Ran)
-    (goes : (k : ℕ) (w j : List ℕ) (s : State) → Unrefused (rest k w j s)) (k : ℕ) (s : State) where
-  status-unrefused : (w j : List ℕ) (next : State) (t : Status) → Unrefused (resumeAs rest k s w j next t)
-  status-unrefused w j next Going = goes (suc k) w j next
-  status-unrefused w j next IsDone = tt
-  status-unrefused w j next NoSlot = tt
-  status-unrefused w j next NoPlace = tt
+    (goes : (k : ℕ) (w j : List ℕ) (s : State) → Ended (rest k w j s)) (k : ℕ) (s : State) where
+  status-ended : (w j : List ℕ) (next : State) (t : Status) → Ended (resumeAs rest k s w j next t)
+  status-ended w j next Going = goes (suc k) w j next
+  status-ended w j next IsDone = tt
+  status-ended w j next NoSlot = omega arith
+  status-ended w j next NoPlace = omega arith
 
-  resume-unrefused : (t : Stepped) → Unrefused (resume rest k s t)
-  resume-unrefused (at w j t) = status-unrefused w j (t .state) (t .status)
+  resume-ended : (t : Stepped) → Ended (resume rest k s t)
+  resume-ended (at w j t) = status-ended w j (t .state) (t .status)
 
-drive-unrefused : (fuel k : ℕ) (w j : List ℕ) (s : State) → Unrefused (drive fuel k w j s)
+drive-ended : (fuel k : ℕ) (w j : List ℕ) (s : State) → Ended (drive fuel k w j s)
 unfolding drive
-drive-unrefused zero k w j s = tt
-drive-unrefused (suc n) k w j s = resume-unrefused (drive n) (drive-unrefused n) k s (step w j s)
+drive-ended zero k w j s = omega arith
+drive-ended (suc n) k w j s = resume-ended (drive n) (drive-ended n) k s (step w j s)
 
-start-unrefused : (before w j : List ℕ) (fuel : ℕ) (s : State) → Unrefused (behind before (start w fuel j (Start s)))
+start-ended : (before w j : List ℕ) (fuel : ℕ) (s : State) → Ended (behind before (start w fuel j (Start s)))
 unfolding start
-start-unrefused before w j fuel s =
-    behind-unrefused before (drive fuel 0 w (cleared j) s) (drive-unrefused fuel 0 w (cleared j) s)
+start-ended before w j fuel s =
+    behind-ended before (drive fuel 0 w (cleared j) s) (drive-ended fuel 0 w (cleared j) s)
 
 -- ---- which slots are misplaced
 
@@ -89,7 +100,7 @@ pub data Verdict (w j : List ℕ) (A B C : Type 0) : Ran → Type 0 where
   out : A → Verdict w j A B C (ran w j (Refused 21))
   misplaced : (A → ⊥) → B → Verdict w j A B C (ran w j (Refused 23))
   damaged : (A → ⊥) → (B → ⊥) → C → Verdict w j A B C (ran w j (Refused 24))
-  started : {r : Ran} → (A → ⊥) → (B → ⊥) → (C → ⊥) → Unrefused r → Verdict w j A B C r
+  started : {r : Ran} → (A → ⊥) → (B → ⊥) → (C → ⊥) → Ended r → Verdict w j A B C r
 
 -- the verdict by a call's own reasons
 abbrev pub Judged : List ℕ → List ℕ → ℤ → ℤ → ℤ → ℕ → Ran → Type 0
@@ -121,7 +132,7 @@ module _ (w j : List ℕ) (b : ℕ) (f x : ℤ) (used fuel : ℕ) where
         by-test Comes (sound (drop b w) used)
         (λ h. started not-out well
         (λ d. false≢true (sym (sound-broken (drop b w) (d .0) used (d .1) (d .2)) ∙ h))
-        (start-unrefused (take b w) (drop b w) j fuel (record { f = s; x = t; used = used; waiting = 0 })))
+        (start-ended (take b w) (drop b w) j fuel (record { f = s; x = t; used = used; waiting = 0 })))
         (λ h. refused 24 (damaged not-out well (sound-breaks (drop b w) used h)))
 
   admitted : b ≤ length w → Comes (admit (drop b w) f x used)

@@ -10,8 +10,7 @@ use Rattle.calculus.specs.Machine.{Stop, stopNumber, ended, stopped, Outcome}
 use Rattle.table.specs.Frames.{frameRoom}
 use Rattle.table.specs.Sound.{Sound}
 use Rattle.table.specs.Holds.{Holds, HoldsFrom, Kept, Untouched, StandFrom, ZeroFrom}
-use Rattle.engine.specs.declared.RunAnswer.the-variants.{Done, Stopped}
-use Rattle.engine.specs.Answer.{Numbers, numbers}
+use Rattle.engine.specs.Answer.{Numbers}
 
 -- What a run leaves in the two tables. w is our part of the word table before it, of which n slots are used, and j the
 -- frame table that is lent; v and k are those after it, with m used slots and `waiting` frames.
@@ -32,17 +31,27 @@ pub record Leaves (w : List ℕ) (n : ℕ) (j v : List ℕ) (m : ℕ) (k : List 
 
 -- The tables and numbers that a run leaves and answers, and the machine's outcome: the same ending, number and steps;
 -- a used count that grows by the nodes made; slots and frames that stand for the machine's trees and frames, these
--- oldest first.
+-- oldest first. Numbers not named are 0.
 pub data Agrees (w : List ℕ) (n : ℕ) (j v k : List ℕ) : Numbers → Outcome → Type 0 where
   agrees-done : {slot steps : ℕ} {t : Tree} {made : List Tree}
       → Holds v (n + length made) slot t
       → Leaves w n j v (n + length made) k made 0
-      → Agrees w n j v k (numbers (Done (pos slot) steps (n + length made)))
+      → Agrees w n j v k
+      (record { number = 0; slot = pos slot; f = pos 0; x = pos 0; steps = steps; used = n + length made; waiting = 0 })
       (record { ending = ended t; steps = steps; made = made })
   agrees-stop : {f x steps : ℕ} {why : Stop} {ft xt : Tree} {frames : List Frame} {made : List Tree}
       → Holds v (n + length made) f ft
       → Holds v (n + length made) x xt
       → StandFrom v (n + length made) k 0 frames
       → Leaves w n j v (n + length made) k made (length frames)
-      → Agrees w n j v k (numbers (Stopped (stopNumber why) (pos f) (pos x) steps (n + length made) (length frames)))
+      → Agrees w n j v k
+      (record {
+        number = stopNumber why;
+        slot = pos 0;
+        f = pos f;
+        x = pos x;
+        steps = steps;
+        used = n + length made;
+        waiting = length frames;
+      })
       (record { ending = stopped why ft xt frames; steps = steps; made = made })

@@ -2,34 +2,31 @@
 -- everything itself, is said by the calls' contracts: they are equations for all inputs, with no `requires`.
 use Prim.Native.Nat.{ℕ}
 use mathlib.Core.Path.{_≡_}
+use mathlib.Core.Bool.{true}
 use mathlib.Core.List.{List}
-use lib.ListN.{take, drop}
+use lib.ListN.{drop}
 use lib.IntN.{ℤ, pos}
-use Rattle.table.specs.declared.slots.Node.the-variants.{Leaf}
+use Rattle.calculus.specs.Tree.{leaf}
 use Rattle.table.specs.Slots.{room}
-use Rattle.table.specs.Holds.{Has}
+use Rattle.table.specs.Holds.{Holds}
 use Rattle.engine.specs.declared.RunAnswer.{RunAnswer}
-use Rattle.engine.specs.declared.RunAnswer.the-variants.{Refused as RunRefused, Done, Stopped}
 use Rattle.engine.specs.Run.{ran, run}
+use Rattle.engine.specs.Answer as engine
 use Rattle.soundness.specs.Meaning.{NamesRefused, NameByIndex, NoSuchName}
 use Rattle.soundness.specs.Meaning as checks
+use Rattle.soundness.specs.Applies.{NumberExactly, NoneExactly}
 use Rattle.loader.specs.declared.LoadAnswer.{LoadAnswer}
 use Rattle.loader.specs.Answer.{numbers}
 use Rattle.loader.specs.Load.{loaded, load}
-use Rattle.guarantees.specs.Run.{RefusalKeeps, RefusedExactly, BaseBlind, DoneStays}
-use Rattle.guarantees.specs.Session.{Request, AllAlike}
+use Rattle.guarantees.specs.Run.{RunCall, started, RefusalKeeps, RefusedExactly, JobsSound, BaseBlind, DoneStays}
+use Rattle.guarantees.specs.OnlyRun.{OnlyRun, SameAll}
+use Rattle.guarantees.specs.Session.{Request, Bring, Table, AllAlike, SessionBlind}
 use Rattle.guarantees.specs.Load.{FitsExactly, AcceptedExactly, RefusedByLowest, OnlyLoad}
 use Rattle.guarantees.specs.Load.{Loads, OneOrder, OneStart, LoadBlind}
 
--- slot zero, of the table from the base on, is the leaf
+-- slot zero of the table from the base on, a slot in its room, holds the leaf
 abbrev pub ZeroIsLeaf : ℤ → List ℕ → Type 0
-ZeroIsLeaf base words = (b : ℕ) × (base ≡ pos b) × Has (drop b words) 0 Leaf
-
--- a run that was let start
-abbrev pub Started : RunAnswer → Type 0
-Started (RunRefused n) = ⊥
-Started (Done slot steps used) = Unit {0}
-Started (Stopped n f x steps used waiting) = Unit {0}
+ZeroIsLeaf base words = (b : ℕ) × (base ≡ pos b) × Holds (drop b words) (room (drop b words)) 0 leaf
 
 -- 1. Any bytes, any slot, any table.
 pub record Demand1 : Type 0 where
@@ -48,7 +45,7 @@ pub record Demand1 : Type 0 where
   pub load-zero : (file words words′ : List ℕ) (base : ℤ) (exports exports′ : List ℕ) (a : LoadAnswer) →
       load file words base exports ≡ loaded words′ exports′ a → numbers a .number ≡ 0 → ZeroIsLeaf base words′
   pub run-zero : (words words′ jobs jobs′ : List ℕ) (base f x : ℤ) (used fuel : ℕ) (a : RunAnswer) →
-      run words base f x used fuel jobs ≡ ran words′ jobs′ a → Started a → ZeroIsLeaf base words′
+      run words base f x used fuel jobs ≡ ran words′ jobs′ a → started (engine.numbers a) ≡ true → ZeroIsLeaf base words′
 
 -- 2. A bundle is accepted exactly when it is within the limits, fits the lent tables and is sound by the format, the digests and
 -- the node hashes. Otherwise the answer is the lowest number that applies.
@@ -62,24 +59,44 @@ pub record Demand2 : Type 0 where
   pub checked : checks.AcceptedExactly
   pub described : checks.DescribedExactly
   pub by-lowest : checks.RefusedByLowest
+  pub by-number : NumberExactly
+  pub by-none : NoneExactly
   pub only-check : checks.OnlyCheck
 
 -- 3. For every accepted bundle and every list of runs after it, refused ones included, the runs go as the bundle's own trees
 -- do on the reference machine. One claim about the whole list: from the table and the used count that the load left, any
--- requests, with the store that starts with the records' trees in the order of placing.
-abbrev pub AllRuns : Type 0
-AllRuns =
+-- requests, whatever each finds before the base, with the store that starts with the records' trees in the order of placing.
+abbrev pub AllRuns : RunCall → Type 0
+AllRuns call =
     (file words words′ : List ℕ) (base : ℤ) (exports exports′ : List ℕ) (a : LoadAnswer) →
     load file words base exports ≡ loaded words′ exports′ a → numbers a .number ≡ 0 →
     (l : Loads file words base exports words′ exports′ (numbers a)) ×
-    ((requests : List Request) →
-    AllAlike (l .at) (room (drop (l .at) words)) (take (l .at) words) (record { words = words′; used = numbers a .nodes })
+    ((requests : List Request) → Bring (l .at) requests →
+    AllAlike call (l .at) (room (drop (l .at) words)) (record { words = drop (l .at) words′; used = numbers a .nodes })
     (l .store) requests)
 
+-- A call for which this holds goes the same as the run call over every such list.
+abbrev pub OnlyRuns : Type 0
+OnlyRuns =
+    (call : RunCall) → AllRuns call →
+    (file words words′ : List ℕ) (base : ℤ) (exports exports′ : List ℕ) (a : LoadAnswer) →
+    load file words base exports ≡ loaded words′ exports′ a → numbers a .number ≡ 0 →
+    (b : ℕ) × (base ≡ pos b) × ((requests : List Request) → Bring b requests →
+    let t : Table = record { words = drop b words′; used = numbers a .nodes } in
+    SameAll call run b (numbers a .nodes) t t requests)
+
 pub record Demand3 : Type 0 where
-  pub all-runs : AllRuns
+  pub all-runs : AllRuns run
   -- there is just one such store
   pub one-order : OneOrder
   pub one-start : OneStart
   -- a done run stays done with more fuel and room
   pub done-stays : DoneStays
+  -- whatever the receiver writes before the base meanwhile, the runs go the same
+  pub session-blind : SessionBlind
+  -- the jobs that a run leaves are sound
+  pub jobs-sound : JobsSound
+  -- nothing is left open but which of two slots with one tree is named: no other call keeps these promises, neither of all
+  -- lists nor of single calls
+  pub only-runs : OnlyRuns
+  pub only-run : OnlyRun

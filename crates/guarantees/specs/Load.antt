@@ -13,10 +13,11 @@ use Rattle.nodes.specs.Records.{Node, hashes}
 use Rattle.bundle.specs.References.{exportHashes}
 use Rattle.soundness.specs.Graph.{Names}
 use Rattle.soundness.specs.Sound.{Sound}
-use Rattle.soundness.specs.Meaning.{Lowest}
+use Rattle.soundness.specs.ManifestGrammar.{Contents}
+use Rattle.soundness.specs.Applies.{HasManifest, HasNodes, Applies, Smallest}
 use Rattle.loader.specs.declared.LoadAnswer.{LoadAnswer}
 use Rattle.loader.specs.Answer.{Numbers, numbers}
-use Rattle.loader.specs.Load.{unfit, crowded, loadChecks, Loaded, loaded, load}
+use Rattle.loader.specs.Load.{unfit as unfitTest, crowded as crowdedTest, Loaded, loaded, load}
 use Rattle.guarantees.specs.Order.{Order, TreesOf}
 use Rattle.guarantees.specs.Run.{SameFrom, beforeBase}
 use Rattle.guarantees.specs.Session.{Holding}
@@ -33,13 +34,20 @@ pub data Unfit (words : List ℕ) (nodes : ℕ) : ℤ → Type 0 where
 abbrev pub FitsExactly : Type 0
 FitsExactly =
     (words exports : List ℕ) (base : ℤ) (nodes asked : ℕ) →
-    ((unfit words base nodes ≡ true) ↔ Unfit words nodes base) × ((crowded exports asked ≡ true) ↔ (length exports < asked))
+    ((unfitTest words base nodes ≡ true) ↔ Unfit words nodes base) × ((crowdedTest exports asked ≡ true) ↔ (length exports < asked))
 
 -- a sound bundle, within the limits, that fits the lent tables
 pub record Loadable (file words : List ℕ) (base : ℤ) (exports : List ℕ) : Type 0 where
   pub sound : Sound file
   pub fits : Unfit words (length (sound .nodes)) base → ⊥
   pub space : length (sound .described .manifest .exports) ≤ length exports
+
+-- when a number applies to a load: one of 1 to 20 to the file; 21 and 22 to the nodes and the exports that it has
+pub data LoadApplies (file words : List ℕ) (base : ℤ) (exports : List ℕ) : ℕ → Type 0 where
+  of-file : {n : ℕ} → Applies file n → LoadApplies file words base exports n
+  unfit : {rs : List Node} → HasNodes file rs → Unfit words (length rs) base → LoadApplies file words base exports 21
+  crowded : {m : Contents} → HasManifest file m → length exports < length (m .exports) →
+      LoadApplies file words base exports 22
 
 -- what any load call leaves and answers, by the file, the word table, the base and the export table
 abbrev pub LoadCall : Type 0
@@ -58,12 +66,12 @@ AcceptsExactly call =
 abbrev pub AcceptedExactly : Type 0
 AcceptedExactly = AcceptsExactly load
 
--- Any other is answered by the lowest number that applies, one of the list, with every other number 0; and no word is changed.
+-- Any other is answered by the smallest number that applies, one of the list, with every other number 0; and no word is changed.
 abbrev pub RefusesByLowest : LoadCall → Type 0
 RefusesByLowest call =
     (file words words′ : List ℕ) (base : ℤ) (exports exports′ : List ℕ) (a : LoadAnswer) →
     call file words base exports ≡ loaded words′ exports′ a → (numbers a .number ≡ 0 → ⊥) →
-    Lowest (loadChecks file words base exports) (numbers a .number) × (numbers a .number ≤ 22)
+    Smallest (LoadApplies file words base exports) (numbers a .number) × (numbers a .number ≤ 22)
     × (numbers a .nodes ≡ 0) × (numbers a .exports ≡ 0) × (words′ ≡ words) × (exports′ ≡ exports)
 
 abbrev pub RefusedByLowest : Type 0

@@ -2,9 +2,10 @@
 use Prim.Native.Nat.{ℕ, _+_, _-_, _≤_, _<_}
 use mathlib.Core.Path.{_≡_}
 use mathlib.Core.List.{List, _++_}
-use mathlib.Core.Bool.{false}
+use mathlib.Core.Bool.{Bool, true, false, _||_}
 use mathlib.Core.Logic.{_⊎_, _↔_}
 use lib.ListN.{length, take, drop}
+use lib.Dec.{eqb, leb}
 use lib.IntN.{ℤ, pos, negsuc}
 use Rattle.calculus.specs.Tree.{Tree}
 use Rattle.calculus.specs.Machine as machine
@@ -12,28 +13,48 @@ use Rattle.table.specs.Slots.{room, SameSlots}
 use Rattle.table.specs.Frames.{frameRoom}
 use Rattle.table.specs.Sound.{soundAt, Sound}
 use Rattle.table.specs.Holds.{Holds}
+use Rattle.table.specs.SoundFrames.{SoundJobs}
 use Rattle.engine.specs.declared.RunAnswer.{RunAnswer}
-use Rattle.engine.specs.declared.RunAnswer.the-variants.{Refused, Done}
 use Rattle.engine.specs.Run.{Ran, ran, run}
-use Rattle.engine.specs.Answer.{numbers}
+use Rattle.engine.specs.Answer.{Numbers, numbers}
 use Rattle.guarantees.specs.Agrees.{Agrees}
+
+-- what any run call leaves and answers, by the word table, the base, the slots f and x, the used count, the fuel and the
+-- frame table
+abbrev pub RunCall : Type 0
+RunCall = List ℕ → ℤ → ℤ → ℤ → ℕ → ℕ → List ℕ → Ran
 
 -- A run on sound used slots is the reference machine's, on the trees that they hold: with the call's fuel, the room
 -- less the used slots, and the frame table's room. The words before the base stay.
-abbrev pub RunSimulates : Type 0
-RunSimulates =
+abbrev pub Simulates : RunCall → Type 0
+Simulates call =
     (before w j : List ℕ) (used f x fuel : ℕ) (ft xt : Tree)
     → Sound w used → Holds w used f ft → Holds w used x xt
     → (v : List ℕ) × (k : List ℕ) × (a : RunAnswer)
-    × (run (before ++ w) (pos (length before)) (pos f) (pos x) used fuel j ≡ ran (before ++ v) k a)
+    × (call (before ++ w) (pos (length before)) (pos f) (pos x) used fuel j ≡ ran (before ++ v) k a)
     × Agrees w used j v k (numbers a) (machine.run fuel (room w - used) (frameRoom j) (machine.start ft xt))
 
--- A refusal has a number of the list and changes nothing.
+abbrev pub RunSimulates : Type 0
+RunSimulates = Simulates run
+
+-- a refusal's numbers: its own, and every other 0
+abbrev pub refusal : ℕ → Numbers
+refusal n = record { number = n; slot = pos 0; f = pos 0; x = pos 0; steps = 0; used = 0; waiting = 0 }
+
+-- a run that was let start is answered 0, or with a stop, 31 or above
+abbrev pub started : Numbers → Bool
+started a = eqb (a .number) 0 || leb 31 (a .number)
+
+-- a call on these two tables is refused with this number: it answers that, and changes no word
+abbrev pub RefusedWith : ℕ → List ℕ → List ℕ → Ran → Type 0
+RefusedWith n w j (ran v k a) = (numbers a ≡ refusal n) × (v ≡ w) × (k ≡ j)
+
+-- A run that was not let start has a number of the list, with every other number 0, and changes nothing.
 abbrev pub RefusalKeeps : Type 0
 RefusalKeeps =
-    (w v j k : List ℕ) (base f x : ℤ) (used fuel n : ℕ)
-    → run w base f x used fuel j ≡ ran v k (Refused n)
-    → (v ≡ w) × (k ≡ j) × ((n ≡ 21) ⊎ ((n ≡ 23) ⊎ (n ≡ 24)))
+    (w v j k : List ℕ) (base f x : ℤ) (used fuel : ℕ) (a : RunAnswer)
+    → run w base f x used fuel j ≡ ran v k a → started (numbers a) ≡ false
+    → (n : ℕ) × RefusedWith n w j (ran v k a) × ((n ≡ 21) ⊎ ((n ≡ 23) ⊎ (n ≡ 24)))
 
 -- 21: base negative or past the end of the table, or used count 0 or above room
 pub data OutOfTable (w : List ℕ) : ℤ → ℕ → Type 0 where
@@ -54,14 +75,24 @@ Damaged w (pos b) used =
 Damaged w (negsuc b) used = ⊥
 
 -- A run is refused exactly when one of these holds, with the lowest number that applies.
-abbrev pub RefusedExactly : Type 0
-RefusedExactly =
+abbrev pub RefusesExactly : RunCall → Type 0
+RefusesExactly call =
     (w j : List ℕ) (base f x : ℤ) (used fuel : ℕ)
-    → ((run w base f x used fuel j ≡ ran w j (Refused 21)) ↔ OutOfTable w base used)
-    × ((run w base f x used fuel j ≡ ran w j (Refused 23))
+    → (RefusedWith 21 w j (call w base f x used fuel j) ↔ OutOfTable w base used)
+    × (RefusedWith 23 w j (call w base f x used fuel j)
     ↔ ((OutOfTable w base used → ⊥) × (Misplaced used f ⊎ Misplaced used x)))
-    × ((run w base f x used fuel j ≡ ran w j (Refused 24))
+    × (RefusedWith 24 w j (call w base f x used fuel j)
     ↔ ((OutOfTable w base used → ⊥) × (Misplaced used f → ⊥) × (Misplaced used x → ⊥) × Damaged w base used))
+
+abbrev pub RefusedExactly : Type 0
+RefusedExactly = RefusesExactly run
+
+-- Every run that was let start leaves sound waiting jobs, as many as it answers: none where it is done.
+abbrev pub JobsSound : Type 0
+JobsSound =
+    (w v j k : List ℕ) (base f x : ℤ) (used fuel : ℕ) (a : RunAnswer)
+    → run w base f x used fuel j ≡ ran v k a → started (numbers a) ≡ true
+    → SoundJobs (numbers a .used) k (numbers a .waiting)
 
 -- two tables agree from the base on; where there is no base, nothing is asked of them
 abbrev pub SameFrom : ℤ → List ℕ → List ℕ → Type 0
@@ -87,13 +118,13 @@ BaseBlind =
     → SameFrom base w w′
     → SameRun base w w′ (run w base f x used fuel j) (run w′ base f x used fuel j)
 
--- A done run stays done with at least as much fuel and room for slots and frames, on the same used slots, wherever
--- they stand: the same result, steps and used count, and the same slots.
+-- A done run, one that is answered 0, stays done with at least as much fuel and room for slots and frames, on the same
+-- used slots, wherever they stand: the same answer, and the same slots.
 abbrev pub DoneStays : Type 0
 DoneStays =
-    (before before′ w w′ v j j′ k : List ℕ) (f x slot : ℤ) (used used′ fuel fuel′ steps : ℕ)
-    → run (before ++ w) (pos (length before)) f x used fuel j ≡ ran (before ++ v) k (Done slot steps used′)
+    (before before′ w w′ v j j′ k : List ℕ) (f x : ℤ) (used fuel fuel′ : ℕ) (a : RunAnswer)
+    → run (before ++ w) (pos (length before)) f x used fuel j ≡ ran (before ++ v) k a → numbers a .number ≡ 0
     → SameSlots used w w′ → fuel ≤ fuel′ → room w ≤ room w′ → frameRoom j ≤ frameRoom j′
     → (v′ : List ℕ) × (k′ : List ℕ)
-    × (run (before′ ++ w′) (pos (length before′)) f x used fuel′ j′ ≡ ran (before′ ++ v′) k′ (Done slot steps used′))
-    × SameSlots used′ v v′
+    × (run (before′ ++ w′) (pos (length before′)) f x used fuel′ j′ ≡ ran (before′ ++ v′) k′ a)
+    × SameSlots (numbers a .used) v v′

@@ -1,9 +1,9 @@
--- A list of runs on one table, refused ones included, against the reference machine and its store of trees.
+-- A list of requests on one table, refused ones included, against the reference machine and its store of trees.
 use Prim.Native.Nat.{ℕ, _-_, _<_}
 use mathlib.Core.Path.{_≡_}
-use mathlib.Core.Bool.{cond}
-use mathlib.Core.List.{List, [], _∷_, _++_}
-use lib.ListN.{length, getD, take, drop}
+use mathlib.Core.Bool.{false, cond}
+use mathlib.Core.List.{List, [], _∷_, _++_, map}
+use lib.ListN.{length, getD, drop}
 use lib.Dec.{ltb}
 use lib.IntN.{ℤ, pos, negsuc}
 use Rattle.calculus.specs.Tree.{Tree, leaf}
@@ -14,17 +14,34 @@ use Rattle.table.specs.Frames.{frameRoom}
 use Rattle.table.specs.Sound.{Sound}
 use Rattle.table.specs.Holds.{Holds, HoldsFrom}
 use Rattle.engine.specs.declared.RunAnswer.{RunAnswer}
-use Rattle.engine.specs.declared.RunAnswer.the-variants.{Refused, Done, Stopped}
 use Rattle.engine.specs.Run.{Ran, ran, run}
 use Rattle.engine.specs.Answer.{numbers}
 use Rattle.guarantees.specs.Agrees.{Agrees}
+use Rattle.guarantees.specs.Run.{RunCall, Simulates, RefusesExactly, refusal, started}
 
--- one request: the slots f and x, the fuel and the frame table that is lent
-pub record Request : Type 0 where
+-- A request to run: the words before the base as they are then, whatever the receiver wrote there meanwhile; the slots f
+-- and x, the fuel and the frame table that is lent.
+pub record ToRun : Type 0 where
+  pub before : List ℕ
   pub f : ℤ
   pub x : ℤ
   pub fuel : ℕ
   pub jobs : List ℕ
+
+pub data Request : Type 0 where
+  to-run : ToRun → Request
+
+-- the tables that a request brings: the words before the base, and the frame table
+abbrev pub beforeOf : Request → List ℕ
+beforeOf (to-run c) = c .before
+
+abbrev pub jobsOf : Request → List ℕ
+jobsOf (to-run c) = c .jobs
+
+-- each brings as many words before the base as the base says
+abbrev pub Bring : ℕ → List Request → Type 0
+Bring b [] = Unit {0}
+Bring b (c ∷ cs) = (length (beforeOf c) ≡ b) × Bring b cs
 
 -- ---- the machine and its store of trees, the paper's book
 
@@ -37,51 +54,52 @@ abbrev pub lookUp : List Tree → ℤ → Found
 lookUp store (pos i) = cond (ltb i (length store)) (found (getD store i leaf)) nowhere
 lookUp store (negsuc i) = nowhere
 
+-- refused with a number, or the machine's outcome
 pub data Reply : Type 0 where
-  refused : Reply
+  refused : ℕ → Reply
   answered : Outcome → Reply
 
--- refused if f or x is no place in the store; else the machine gets their trees, the fuel, the free slots and the
+-- refused with 23 if f or x is no place in the store; else the machine gets their trees, the fuel, the free slots and the
 -- places for frames
 abbrev pub replyTo : Found → Found → ℕ → ℕ → ℕ → Reply
-replyTo nowhere x fuel free places = refused
-replyTo (found f) nowhere fuel free places = refused
+replyTo nowhere x fuel free places = refused 23
+replyTo (found f) nowhere fuel free places = refused 23
 replyTo (found f) (found x) fuel free places = answered (machine.run fuel free places (machine.start f x))
 
 -- the free slots are the room less the store's length
 abbrev pub reply : ℕ → List Tree → Request → Reply
-reply most store c =
+reply most store (to-run c) =
     replyTo (lookUp store (c .f)) (lookUp store (c .x)) (c .fuel) (most - length store) (frameRoom (c .jobs))
 
 -- nodes made join the store in turn
 abbrev pub storeAfter : List Tree → Reply → List Tree
-storeAfter store refused = store
+storeAfter store (refused n) = store
 storeAfter store (answered o) = store ++ o .made
 
--- ---- the calls: the table as last left, and the used count that the last run not refused answered
+-- ---- the calls: our part of the table as last left, and the used count that the last request not refused answered
 
 pub record Table : Type 0 where
   pub words : List ℕ
   pub used : ℕ
 
-abbrev pub answer : ℤ → Table → Request → Ran
-answer base t c = run (t .words) base (c .f) (c .x) (t .used) (c .fuel) (c .jobs)
+-- our part stands behind the words that the request brings, at base b
+abbrev pub answer : RunCall → ℕ → Table → Request → Ran
+answer call b t (to-run c) = call (c .before ++ t .words) (pos b) (c .f) (c .x) (t .used) (c .fuel) (c .jobs)
 
-abbrev pub tableAfter : Table → Ran → Table
-tableAfter t (ran w j (Refused n)) = record { words = w; used = t .used }
-tableAfter t (ran w j (Done slot steps used)) = record { words = w; used = used }
-tableAfter t (ran w j (Stopped n f x steps used waiting)) = record { words = w; used = used }
+abbrev pub tableAfter : ℕ → Table → Ran → Table
+tableAfter b t (ran w j a) =
+    record { words = drop b w; used = cond (started (numbers a)) (numbers a .used) (t .used) }
 
 -- ---- both
 
--- a request is refused with 23 by both, and changes nothing; or answered by both, and agrees; the words before the
--- base b stay
-pub data Alike (b : ℕ) (t : Table) (c : Request) : Ran → Reply → Type 0 where
-  alike-refused : Alike b t c (ran (t .words) (c .jobs) (Refused 23)) refused
+-- a request is refused by both with one number, and changes nothing; or answered by both, and agrees, and the words
+-- before the base stay
+pub data Alike (t : Table) (c : Request) : Ran → Reply → Type 0 where
+  alike-refused : {a : RunAnswer} {n : ℕ} → numbers a ≡ refusal n → started (refusal n) ≡ false
+      → Alike t c (ran (beforeOf c ++ t .words) (jobsOf c) a) (refused n)
   alike-answered : {w j : List ℕ} {a : RunAnswer} {o : Outcome}
-      → Agrees (drop b (t .words)) (t .used) (c .jobs) (drop b w) j (numbers a) o
-      → take b w ≡ take b (t .words)
-      → Alike b t c (ran w j a) (answered o)
+      → Agrees (t .words) (t .used) (jobsOf c) w j (numbers a) o
+      → Alike t c (ran (beforeOf c ++ w) j a) (answered o)
 
 -- used slot i holds the store's tree i, slot zero the leaf; the used slots are sound
 pub record Holding (w : List ℕ) (used : ℕ) (store : List Tree) : Type 0 where
@@ -91,21 +109,44 @@ pub record Holding (w : List ℕ) (used : ℕ) (store : List Tree) : Type 0 wher
   pub each : HoldsFrom w used 0 store
   pub zero : Holds w used 0 leaf
 
--- the whole list, in a table whose base is b and whose room is `most` throughout; behind it the used slots hold the
--- store, and the words before the base are those at the start
-abbrev pub AllAlike : ℕ → ℕ → List ℕ → Table → List Tree → List Request → Type 0
-AllAlike b most before t store [] =
-    Holding (drop b (t .words)) (t .used) store × (take b (t .words) ≡ before) × (room (drop b (t .words)) ≡ most)
-AllAlike b most before t store (c ∷ cs) =
-    Alike b t c (answer (pos b) t c) (reply most store c)
-    × AllAlike b most before (tableAfter t (answer (pos b) t c)) (storeAfter store (reply most store c)) cs
+-- the whole list, by one call, at base b in a table whose room is `most` throughout; behind it the used slots hold the
+-- store
+abbrev pub AllAlike : RunCall → ℕ → ℕ → Table → List Tree → List Request → Type 0
+AllAlike call b most t store [] = Holding (t .words) (t .used) store × (room (t .words) ≡ most)
+AllAlike call b most t store (c ∷ cs) =
+    Alike t c (answer call b t c) (reply most store c)
+    × AllAlike call b most (tableAfter b t (answer call b t c)) (storeAfter store (reply most store c)) cs
 
--- From any table whose used slots hold a store of trees, any list of requests goes as the machine does on that store.
+-- From any table whose used slots hold a store of trees, any list of requests goes as the machine does on that store,
+-- whatever stands before the base at each of them; and so with any call that keeps two promises of the run call.
 abbrev pub SessionSimulates : Type 0
 SessionSimulates =
-    (before w : List ℕ) (used : ℕ) (store : List Tree) → Holding w used store
-    → (requests : List Request)
-    → AllAlike (length before) (room w) before (record { words = before ++ w; used = used }) store requests
+    (call : RunCall) → RefusesExactly call → Simulates call
+    → (w : List ℕ) (used : ℕ) (store : List Tree) → Holding w used store
+    → (b : ℕ) (requests : List Request) → Bring b requests
+    → AllAlike call b (room w) (record { words = w; used = used }) store requests
+
+-- ---- the words before the base
+
+-- the request with nothing before the base
+abbrev pub bare : Request → Request
+bare (to-run c) = to-run (record { before = []; f = c .f; x = c .x; fuel = c .fuel; jobs = c .jobs })
+
+-- what a call leaves from the base on, with its frame table and its answer
+abbrev pub fromBase : ℕ → Ran → Ran
+fromBase b (ran w j a) = ran (drop b w) j a
+
+-- that of each request of a list
+abbrev pub leftBy : RunCall → ℕ → Table → List Request → List Ran
+leftBy call b t [] = []
+leftBy call b t (c ∷ cs) =
+    fromBase b (answer call b t c) ∷ leftBy call b (tableAfter b t (answer call b t c)) cs
+
+-- Whatever the receiver writes before the base between two requests, the list goes as on our part alone.
+abbrev pub SessionBlind : Type 0
+SessionBlind =
+    (b : ℕ) (t : Table) (requests : List Request) → Bring b requests
+    → leftBy run b t requests ≡ leftBy run 0 t (map bare requests)
 
 -- Sound used slots hold just one store.
 abbrev pub OneStore : Type 0

@@ -12,6 +12,7 @@ use Rattle.bundle.specs.Exports.{nameCall}
 use Rattle.soundness.specs.ManifestGrammar.{Contents, IsManifest, manifest, counted}
 use Rattle.soundness.specs.Sound.{Described}
 use Rattle.soundness.proofs.ManifestMeaning.{reads-exports}
+use Rattle.soundness.proofs.Sections.{described-manifest}
 use Rattle.soundness.proofs.Meaning.{accepted-exactly, name-by-index}
 use Rattle.loader.specs.Load.{exportsIn}
 
@@ -30,7 +31,7 @@ module _ (file : List ℕ) (clear : refusal file ≡ 0) where
   described = accepted-exactly file .0 clear .described
 
   read : exportsIn file ≡ described .manifest .exports
-  read = reads-exports (manifestSection file) (described .manifest) (described .is-manifest)
+  read = reads-exports (manifestSection file) (described .manifest) (described-manifest described)
 
   pub few-exports : length (exportsIn file) ≤ 32
   few-exports = rw read (few-listed (described .is-manifest))

@@ -18,27 +18,20 @@ use Rattle.manifest.specs.Judged.{exportsOf}
 use Rattle.soundness.proofs.ManifestMeaning.{reads-exports}
 use Rattle.soundness.proofs.NodesMeaning.{one-tree-each as one-tree-of}
 use Rattle.bundle.specs.Directory.{manifestSection}
-use Rattle.bundle.specs.Checks.{headerChecks, directoryChecks, manifestChecks, nodeChecks, nameChecks, checks}
-use Rattle.bundle.specs.Checks.{nameRefusal, refusal}
+use Rattle.bundle.specs.Checks.{nameChecks, checks, nameRefusal, refusal}
 use Rattle.bundle.specs.Exports.{namePart, indexAsked, indexCall, answerOf, numbers}
 use Rattle.soundness.specs.Sound.{Described, Sound}
+use Rattle.soundness.specs.Applies.{Applies, Smallest}
 use Rattle.soundness.specs.Meaning.{DescribedExactly, AcceptedExactly, RefusedByLowest, OneTreeEach, NameByIndex, IndexByName}
-use Rattle.soundness.specs.Meaning.{Lowest, OnlyCheck, NameInFile, NoSuchName, EmptyName, IndexBelow, NamesRefused}
+use Rattle.soundness.specs.Meaning.{OnlyCheck, NameInFile, NoSuchName, EmptyName, IndexBelow, NamesRefused}
 use Rattle.soundness.specs.ManifestGrammar.{Contents, IsManifest, manifest, counted}
-use Rattle.bundle.proofs.Rows.{Ascends, clear-first, first-clear}
-use Rattle.soundness.proofs.Lowest.{first-lowest, one-lowest}
+use Rattle.bundle.proofs.Rows.{clear-first, first-clear}
+use Rattle.soundness.proofs.Smallest.{one-smallest}
+use Rattle.soundness.proofs.Applies.{names-ascend, ascending, number-exactly, name-number-exactly}
 use Rattle.soundness.proofs.Each.{each-exactly}
 use Rattle.soundness.proofs.File.{few-nodes, clear-described, clear-sound, described-clear, sound-clear}
+use Rattle.soundness.proofs.Sections.{described-manifest}
 use Rattle.soundness.proofs.Calls.{names-length, found-there, name-read, part-inside, index-asked, asked-name}
-
--- the numbers of the rows ascend
-names-ascend : (file : List ℕ) → Ascends 0 (nameChecks file)
-unfolding nameChecks headerChecks directoryChecks manifestChecks
-names-ascend file = omega arith
-
-ascending : (file : List ℕ) → Ascends 0 (checks file)
-unfolding checks nameChecks headerChecks directoryChecks manifestChecks nodeChecks
-ascending file = omega arith
 
 pub described-exactly : DescribedExactly
 unfolding nameRefusal
@@ -55,18 +48,25 @@ accepted-exactly file = (
 )
 
 pub refused-by-lowest : RefusedByLowest
-unfolding nameRefusal refusal
-refused-by-lowest file =
-    (first-lowest 0 (nameChecks file) (names-ascend file), first-lowest 0 (checks file) (ascending file))
+refused-by-lowest file = (
+  elim (ℕ-discrete (nameRefusal file) 0) [
+    | yes e ↦ inl e
+    | no n ↦ inr (name-number-exactly file (nameRefusal file) .0 (refl, n) .0)
+  ],
+  elim (ℕ-discrete (refusal file) 0) [
+    | yes e ↦ inl e
+    | no n ↦ inr (number-exactly file (refusal file) .0 (refl, n))
+  ],
+)
 
 pub only-check : OnlyCheck
 only-check call accepts lowest file = go (lowest file) (refused-by-lowest file .1)
   where
-    go : (call file ≡ 0) ⊎ Lowest (checks file) (call file) → (refusal file ≡ 0) ⊎ Lowest (checks file) (refusal file) →
+    go : (call file ≡ 0) ⊎ Smallest (Applies file) (call file) → (refusal file ≡ 0) ⊎ Smallest (Applies file) (refusal file) →
         call file ≡ refusal file
     go (inl e) _ = e ∙ sym (accepted-exactly file .1 (accepts file .0 e))
     go (inr l) (inl e) = accepts file .1 (accepted-exactly file .0 e) ∙ sym e
-    go (inr l) (inr m) = one-lowest l m
+    go (inr l) (inr m) = one-smallest l m
 
 pub one-tree-each : OneTreeEach
 one-tree-each file sound r a =
@@ -79,7 +79,7 @@ module _ (file : List ℕ) (d : Described file) where
   fine = clear-first (nameChecks file) (described-clear file d)
 
   read : exportsOf (manifestSection file) ≡ d .manifest .exports
-  read = reads-exports (manifestSection file) (d .manifest) (d .is-manifest)
+  read = reads-exports (manifestSection file) (d .manifest) (described-manifest d)
 
   -- what a name that is not empty is answered
   asked : {name : List ℕ} {f : Found} → (name ≡ [] → ⊥) → indexOf name 0 (names (d .manifest .exports)) ≡ f →

@@ -45,6 +45,7 @@ node-payload (nodes n l m q) a = each-payload q a
 
 module _ (rs : List Node) {s : List ℕ} (are : IsNodes rs s) (hashed : Hashed rs) where
   same-hash : (r q : Node) → Among r rs → Among q rs → children r ≡ children q → r .hash ≡ q .hash
+  unfolding nodeHash
   same-hash r q a b e =
       let p : r .payload ≡ q .payload = one-payload (node-payload are a) (rw e (node-payload are b)) in
       hashed r a ∙ ap nodeHash p ∙ sym (hashed q b)

@@ -2,6 +2,7 @@
 use Prim.Native.Nat.{_<_}
 use native.Mathlib.Omega.{arith}
 use lib.ListN.{length}
+use Rattle.nodes.specs.Records.{nodeHash}
 use Rattle.nodes.specs.Links.{placedOf}
 use Rattle.soundness.specs.NodesMeaning.{
   ShapedExactly,
@@ -30,6 +31,7 @@ pub reads-children : ReadsChildren
 reads-children p cs i = payload-children i
 
 pub hashed-exactly : HashedExactly
+unfolding nodeHash
 hashed-exactly rs = right-exactly rs rs
 
 pub distinct-exactly : DistinctExactly

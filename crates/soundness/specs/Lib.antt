@@ -3,5 +3,8 @@ pub mod ManifestMeaning
 pub mod Graph
 pub mod NodesGrammar
 pub mod NodesMeaning
+pub mod FileGrammar
+pub mod FileMeaning
 pub mod Sound
+pub mod Applies
 pub mod Meaning

@@ -1,7 +1,6 @@
 -- What the answers of the checks and of the export calls mean. The proofs are in proofs/Meaning.antt.
 use Prim.Native.Nat.{ℕ, _+_, _≤_, _<_}
 use mathlib.Core.Path.{_≡_}
-use mathlib.Core.Bool.{true, false}
 use mathlib.Core.Logic.{_↔_, _⊎_}
 use mathlib.Core.List.{List, []}
 use lib.ListN.{length, getD}
@@ -11,9 +10,10 @@ use Rattle.sizes.specs.Sizes.{exportsSize}
 use Rattle.manifest.specs.Content.{names}
 use Rattle.nodes.specs.Records.{Node}
 use Rattle.soundness.specs.Graph.{Names}
-use Rattle.bundle.specs.Checks.{Check, nameChecks, checks, nameRefusal, refusal}
+use Rattle.bundle.specs.Checks.{nameRefusal, refusal}
 use Rattle.bundle.specs.Exports.{emptyPart, namePart, nameCall, indexCall, numbers}
 use Rattle.soundness.specs.Sound.{Described, Sound}
+use Rattle.soundness.specs.Applies.{Applies, Smallest}
 
 -- the checks 1 to 14 answer 0 exactly for a described file, the checks 1 to 20 exactly for a sound one
 abbrev pub DescribedExactly : Type 0
@@ -25,26 +25,18 @@ AcceptsExactly call = (file : List ℕ) → (call file ≡ 0) ↔ Sound file
 abbrev pub AcceptedExactly : Type 0
 AcceptedExactly = AcceptsExactly refusal
 
--- a check that applies, with no lower number that does
-pub record Lowest (cs : List Check) (n : ℕ) : Type 0 where
-  pub check : Check
-  pub listed : Among check cs
-  pub number : check .number ≡ n
-  pub applies : check .holds ≡ true
-  pub lowest : (c : Check) → Among c cs → c .number < n → c .holds ≡ false
-
--- any other file is answered by the lowest number that applies
+-- any other file is answered by the smallest number that applies
 abbrev pub RefusedByLowest : Type 0
 RefusedByLowest =
     (file : List ℕ) →
-    ((nameRefusal file ≡ 0) ⊎ Lowest (nameChecks file) (nameRefusal file)) ×
-    ((refusal file ≡ 0) ⊎ Lowest (checks file) (refusal file))
+    ((nameRefusal file ≡ 0) ⊎ Smallest (Applies file) (nameRefusal file)) ×
+    ((refusal file ≡ 0) ⊎ Smallest (Applies file) (refusal file))
 
--- nothing is left open: a check that accepts exactly the sound files and answers any other by the lowest number is this one
+-- nothing is left open: a check that accepts exactly the sound files and answers any other by the smallest number is this one
 abbrev pub OnlyCheck : Type 0
 OnlyCheck =
     (call : List ℕ → ℕ) → AcceptsExactly call →
-    ((file : List ℕ) → (call file ≡ 0) ⊎ Lowest (checks file) (call file)) →
+    ((file : List ℕ) → (call file ≡ 0) ⊎ Smallest (Applies file) (call file)) →
     (file : List ℕ) → call file ≡ refusal file
 
 -- in a sound file the hash of every record names exactly one tree

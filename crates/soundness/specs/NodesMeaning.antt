@@ -3,20 +3,22 @@ use Prim.Native.Nat.{ℕ, _≤_}
 use mathlib.Core.Path.{_≡_}
 use mathlib.Core.Bool.{true, false}
 use mathlib.Core.Logic.{_↔_}
-use mathlib.Core.List.{List}
+use mathlib.Core.List.{List, _∷_, _++_}
 use lib.ListN.{length}
+use Rattle.wire.specs.Wire.{ascii}
 use Rattle.wire.specs.Relations.{Among, Distinct}
+use Rattle.sha256_block.specs.Fips180.{sha256}
 use Rattle.sizes.specs.Sizes.{nodesSize}
 use Rattle.calculus.specs.Tree.{Tree}
 use Rattle.nodes.specs.declared.faults.Fault.the-variants.{Hash, Twice, Child as NoChild}
-use Rattle.nodes.specs.Records.{Node, childrenOf, children, shaped, nodesOf, nodeHash, hashes, someFaulty}
+use Rattle.nodes.specs.Records.{Node, childrenOf, children, shaped, nodesOf, hashes, someFaulty}
 use Rattle.nodes.specs.Links.{circular}
 use Rattle.soundness.specs.Graph.{Circle, Names}
 use Rattle.soundness.specs.NodesGrammar.{IsPayload, IsNodes}
 
--- each record carries the hash of its payload
+-- each record carries the hash of its payload: SHA-256 of the 23 bytes, a zero byte, the payload
 abbrev pub Hashed : List Node → Type 0
-Hashed rs = (r : Node) → Among r rs → r .hash ≡ nodeHash (r .payload)
+Hashed rs = (r : Node) → Among r rs → r .hash ≡ sha256 (ascii "arboricx.merkle.node.v1" ++ (0 ∷ r .payload))
 
 -- every child has a record
 abbrev pub Closed : List Node → Type 0

@@ -1,52 +1,53 @@
 -- What an accepted file is, in plain facts: sizes, digests, the manifest and the nodes that its sections are, and how they
 -- hang together.
-use Prim.Native.Nat.{ℕ, _+_, _*_, _%_, _≤_}
+use Prim.Native.Nat.{ℕ, _%_, _≤_}
 use mathlib.Core.Path.{_≡_}
-use mathlib.Core.Bool.{true, false}
 use mathlib.Core.List.{List}
-use lib.ListN.{length, take, drop}
+use lib.ListN.{length}
 use Rattle.wire.specs.Wire.{ascii}
-use Rattle.wire.specs.Relations.{Number, Among, Distinct}
+use Rattle.wire.specs.Relations.{Among, Distinct}
 use Rattle.sha256_block.specs.Fips180.{sha256}
 use Rattle.sizes.specs.Sizes.{fileSize, sectionsSize}
 use Rattle.manifest.specs.Content.{Root, Export}
+use Rattle.nodes.specs.Records.{Node, hashes}
+use Rattle.soundness.specs.FileGrammar.{Header, Entry, HasDirectory, IsSection, SectionOf, Known, OccursOnce}
 use Rattle.soundness.specs.ManifestGrammar.{Contents, IsManifest}
 use Rattle.soundness.specs.ManifestMeaning.{Supported, Named}
-use Rattle.nodes.specs.Records.{Node, hashes}
 use Rattle.soundness.specs.Graph.{Circle}
 use Rattle.soundness.specs.NodesGrammar.{IsNodes}
 use Rattle.soundness.specs.NodesMeaning.{Hashed, Closed}
-use Rattle.bundle.specs.declared.directory.Entry.{Entry}
-use Rattle.bundle.specs.Header.{headerBytes, entryBytes, sectionCount, directoryOffset}
-use Rattle.bundle.specs.Directory.{entries, manifestKind, nodesKind, known, sectionOf, digestOf, occurrences, manifestSection, nodesSection}
 
 -- a sound entry: an unknown type is not critical, nothing is compressed, the digest is SHA-256, the section lies in the file,
 -- and where the type is known the digest is the section's
 pub record SoundEntry (file : List ℕ) (e : Entry) : Type 0 where
-  pub optional : known (e .kind) ≡ false → e .flags % 2 ≡ 0
+  pub optional : (Known e → ⊥) → e .flags % 2 ≡ 0
   pub compression : e .compression ≡ 0
   pub algorithm : e .algorithm ≡ 1
-  pub inside : e .offset + e .size ≤ length file
-  pub digest : known (e .kind) ≡ true → sha256 (sectionOf file e) ≡ digestOf file e
+  pub bytes : List ℕ
+  pub inside : IsSection e bytes file
+  pub digest : Known e → sha256 bytes ≡ e .digest
 
 -- what 1 to 14 ask of a file: its header, its directory and its manifest
 pub record Described (file : List ℕ) : Type 0 where
+  pub header : Header
+  pub entries : List Entry
   pub manifest : Contents
-  -- the header
-  pub least : fileSize .least ≤ length file
+  -- the header, and the directory right behind it
   pub most : length file ≤ fileSize .most
-  pub magic : take 8 file ≡ ascii "ARBORICX"
-  pub major : Number 2 1 (take 2 (drop 8 file))
-  pub sections-least : sectionsSize .least ≤ sectionCount file
-  pub sections-most : sectionCount file ≤ sectionsSize .most
-  pub directory-offset : directoryOffset file ≡ headerBytes
-  pub directory-inside : headerBytes + entryBytes * sectionCount file ≤ length file
+  pub has-directory : HasDirectory header entries file
+  pub magic : header .magic ≡ ascii "ARBORICX"
+  pub major : header .major ≡ 1
+  pub sections-least : sectionsSize .least ≤ header .sections
+  pub sections-most : header .sections ≤ sectionsSize .most
+  pub directory-offset : header .directory ≡ 32
   -- the directory
-  pub sound-entries : (e : Entry) → Among e (entries file) → SoundEntry file e
-  pub one-manifest : occurrences manifestKind (entries file) ≡ 1
-  pub one-nodes : occurrences nodesKind (entries file) ≡ 1
-  -- the manifest
-  pub is-manifest : IsManifest manifest (manifestSection file)
+  pub sound-entries : (e : Entry) → Among e entries → SoundEntry file e
+  pub one-manifest : OccursOnce 1 entries
+  pub one-nodes : OccursOnce 2 entries
+  -- the manifest: the section of type 1
+  pub manifest-bytes : List ℕ
+  pub manifest-section : SectionOf file 1 manifest-bytes
+  pub is-manifest : IsManifest manifest manifest-bytes
   pub supported : Supported manifest
   pub named : Named manifest
 
@@ -54,7 +55,10 @@ pub record Described (file : List ℕ) : Type 0 where
 pub record Sound (file : List ℕ) : Type 0 where
   pub described : Described file
   pub nodes : List Node
-  pub is-nodes : IsNodes nodes (nodesSection file)
+  -- the section of type 2
+  pub nodes-bytes : List ℕ
+  pub nodes-section : SectionOf file 2 nodes-bytes
+  pub is-nodes : IsNodes nodes nodes-bytes
   pub hashed : Hashed nodes
   pub distinct : Distinct (hashes nodes)
   pub closed : Closed nodes

@@ -7,3 +7,4 @@ pub mod SoundTest
 pub mod SoundLaws
 pub mod FrameLaws
 pub mod HoldsLaws
+pub mod SoundFrames

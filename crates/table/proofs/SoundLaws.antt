@@ -17,7 +17,7 @@ use Rattle.table.specs.Sound.{slotSound, soundAt, sound, Sound}
 use Rattle.table.specs.Holds.{Has}
 use Rattle.table.proofs.SlotLaws.{room-put, put-here, first-other, second-other}
 
-both-true : (a b : Bool) → a && b ≡ true → (a ≡ true) × (b ≡ true)
+pub both-true : (a b : Bool) → a && b ≡ true → (a ≡ true) × (b ≡ true)
 both-true true b e = (refl, e)
 both-true false b e = absurd (false≢true e)
 

@@ -3,3 +3,4 @@ pub mod Slots
 pub mod Sound
 pub mod Frames
 pub mod Holds
+pub mod SoundFrames

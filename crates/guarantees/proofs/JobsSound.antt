@@ -1,0 +1,18 @@
+-- A run that was let start leaves sound waiting jobs.
+use Prim.Native.Nat.{ℕ}
+use mathlib.Core.List.{List, []}
+use Rattle.calculus.specs.Machine.{Outcome}
+use Rattle.table.specs.SoundFrames.{SoundJobs}
+use Rattle.table.proofs.SoundFrames.{standing-sound}
+use Rattle.engine.specs.Answer.{Numbers}
+use Rattle.guarantees.specs.Agrees.{Agrees, agrees-done, agrees-stop}
+use Rattle.guarantees.specs.Run.{JobsSound}
+use Rattle.guarantees.proofs.Begins.{begun}
+
+agrees-sound : {w j v k : List ℕ} {n : ℕ} {a : Numbers} {o : Outcome} → Agrees w n j v k a o
+    → SoundJobs (a .used) k (a .waiting)
+agrees-sound {v = v} {k = k} (agrees-done h l) = standing-sound v _ k [] (l .places) tt (l .above)
+agrees-sound {v = v} {k = k} (agrees-stop {frames = frames} f x s l) = standing-sound v _ k frames (l .places) s (l .above)
+
+pub jobs-sound : JobsSound
+jobs-sound w v j k base f x used fuel a e s = agrees-sound (begun w v j k base f x used fuel a s e .1)

@@ -1,0 +1,37 @@
+-- What stands before the base at a request changes nothing: each call is one and the same run on our part.
+use Prim.Native.Nat.{ℕ}
+use mathlib.Core.Path.{_≡_, refl}
+use mathlib.Core.List.{List, [], _∷_, map}
+use lib.ListN.{length}
+use lib.Seq.{drop-append-seam}
+use Rattle.engine.specs.Run.{Ran, ran, run, runTail, behind}
+use Rattle.guarantees.specs.Session.{Request, to-run, Bring, Table, answer, tableAfter}
+use Rattle.guarantees.specs.Session.{bare, fromBase, leftBy, SessionBlind}
+use Rattle.guarantees.proofs.Calls.{run-behind}
+
+module _ (before : List ℕ) (t : Table) where
+  same-left : (r : Ran) → fromBase (length before) (behind before r) ≡ fromBase 0 (behind [] r)
+  same-left (ran v k a) = rw (drop-append-seam before v)
+
+  same-table : (r : Ran) → tableAfter (length before) t (behind before r) ≡ tableAfter 0 t (behind [] r)
+  same-table (ran v k a) = rw (drop-append-seam before v)
+
+module _ (b : ℕ) where
+  blind : (t : Table) (cs : List Request) → Bring b cs → leftBy run b t cs ≡ leftBy run 0 t (map bare cs)
+  blind t [] bring = refl
+  blind t (to-run c ∷ cs) (long, bring) =
+      let r = runTail (t .words) (c .f) (c .x) (t .used) (c .fuel) (c .jobs) in
+      let p : answer run b t (to-run c) ≡ behind (c .before) r
+      = rw (← long) (run-behind (c .before) (t .words) (c .jobs) (c .f) (c .x) (t .used) (c .fuel))
+      in
+      let q : answer run 0 t (bare (to-run c)) ≡ behind [] r
+      = run-behind [] (t .words) (c .jobs) (c .f) (c .x) (t .used) (c .fuel)
+      in
+      let d : fromBase b (behind (c .before) r) ≡ fromBase 0 (behind [] r) = rw (← long) (same-left (c .before) t r) in
+      let e : tableAfter b t (behind (c .before) r) ≡ tableAfter 0 t (behind [] r)
+      = rw (← long) (same-table (c .before) t r)
+      in
+      rw (p, q, d, blind (tableAfter b t (behind (c .before) r)) cs bring, e)
+
+pub session-blind : SessionBlind
+session-blind b t requests bring = blind b t requests bring

@@ -1,0 +1,149 @@
+-- The answer of the checks is the smallest number that applies: proofs of specs/Applies.antt.
+use Prim.Native.Nat.{ℕ, _+_, _≤_, _<_}
+use mathlib.Core.Path.{_≡_, refl, sym, subst, _∙_}
+use mathlib.Core.List.{List, [], _∷_, _++_}
+use mathlib.Core.Bool.{true, false}
+use mathlib.Core.Logic.{_↔_}
+use native.Mathlib.Omega.{arith}
+use native.Mathlib.Decide.{ℕ-discrete, decLt, decLe}
+use lib.ListN.{length}
+use Rattle.wire.specs.Relations.{Among, here, there}
+use Rattle.bundle.specs.Directory.{entries, occurrences, section, manifestSection, nodesSection}
+use Rattle.bundle.specs.Checks.{Check, firstOf, headerChecks, directoryChecks, manifestChecks, nodeChecks, nameChecks, checks}
+use Rattle.bundle.specs.Checks.{nameRefusal, refusal}
+use Rattle.bundle.proofs.Rows.{Ascends, Clear, clear-parts}
+use Rattle.soundness.specs.FileGrammar.{HasDirectory, SectionOf, Occurs, OccursAgain}
+use Rattle.soundness.specs.Applies.{Applies, NumberExactly, NoneExactly, NameNumberExactly, NameNoneExactly}
+use Rattle.soundness.specs.Applies as rows
+use Rattle.soundness.proofs.FileFormat.{readHeader, readDirectory}
+use Rattle.soundness.proofs.Sections.{section-only, section-read}
+use Rattle.soundness.proofs.ManifestMeaning.{shaped-exactly}
+use Rattle.soundness.proofs.Directory.{Inside, All, inside-fine, again-fine, there-fine}
+use Rattle.soundness.proofs.FileRows.{header-means, header-directory, directory-means}
+use Rattle.soundness.proofs.SectionRows.{manifest-means, nodes-means, the-manifest, one-contents}
+use Rattle.soundness.proofs.Smallest.{Means, means-parts, Consecutive, first-exactly, first-none}
+
+-- a number that applies is one of 1 to 20
+pub bounds : {file : List ℕ} {n : ℕ} → Applies file n → (0 < n) × (n ≤ 20)
+bounds (rows.over _) = (omega arith, omega arith)
+bounds (rows.under _) = (omega arith, omega arith)
+bounds (rows.magic _ _) = (omega arith, omega arith)
+bounds (rows.major _ _) = (omega arith, omega arith)
+bounds (rows.sections _ _) = (omega arith, omega arith)
+bounds (rows.directory-offset _ _) = (omega arith, omega arith)
+bounds (rows.directory-end _ _) = (omega arith, omega arith)
+bounds (rows.critical _ _ _ _) = (omega arith, omega arith)
+bounds (rows.compression _ _ _) = (omega arith, omega arith)
+bounds (rows.algorithm _ _ _) = (omega arith, omega arith)
+bounds (rows.outside _ _ _) = (omega arith, omega arith)
+bounds (rows.again _ _) = (omega arith, omega arith)
+bounds (rows.missing _ _) = (omega arith, omega arith)
+bounds (rows.digest _ _ _ _ _) = (omega arith, omega arith)
+bounds (rows.manifest-shape _ _) = (omega arith, omega arith)
+bounds (rows.fixed-string _ _) = (omega arith, omega arith)
+bounds (rows.export-abi _ _ _) = (omega arith, omega arith)
+bounds (rows.capability _ _) = (omega arith, omega arith)
+bounds (rows.closure _ _) = (omega arith, omega arith)
+bounds (rows.name-size _ _ _) = (omega arith, omega arith)
+bounds (rows.name-twice _ _) = (omega arith, omega arith)
+bounds (rows.nodes-shape _ _) = (omega arith, omega arith)
+bounds (rows.hash _ _ _) = (omega arith, omega arith)
+bounds (rows.hash-twice _ _) = (omega arith, omega arith)
+bounds (rows.child _ _ _ _ _) = (omega arith, omega arith)
+bounds (rows.circle _ _) = (omega arith, omega arith)
+bounds (rows.root _ _ _ _) = (omega arith, omega arith)
+bounds (rows.export _ _ _ _) = (omega arith, omega arith)
+
+module _ (file : List ℕ) where
+  -- the sections that are read are those of the file
+  module _ (dir : HasDirectory (readHeader file) (readDirectory file) file) (clear : Clear (directoryChecks file)) where
+    inside-each : All file (Inside file)
+    unfolding directoryChecks
+    inside-each = inside-fine file .0 (clear .1 .1 .0)
+
+    at-most-once : (OccursAgain 1 (readDirectory file) → ⊥) × (OccursAgain 2 (readDirectory file) → ⊥)
+    unfolding directoryChecks
+    at-most-once = again-fine file .0 (clear .1 .1 .1 .0)
+
+    at-least-once : Occurs 1 (readDirectory file) × Occurs 2 (readDirectory file)
+    unfolding directoryChecks
+    at-least-once = there-fine file .0 (clear .1 .1 .1 .1 .0)
+
+    first-section : SectionOf file 1 (manifestSection file)
+    first-section = section-read file 1 (at-most-once .0) dir inside-each (at-least-once .0)
+
+    first-only : (t : List ℕ) → SectionOf file 1 t → manifestSection file ≡ t
+    first-only = section-only file 1 (at-most-once .0)
+
+    second-section : SectionOf file 2 (nodesSection file)
+    second-section = section-read file 2 (at-most-once .1) dir inside-each (at-least-once .1)
+
+    second-only : (t : List ℕ) → SectionOf file 2 t → nodesSection file ≡ t
+    second-only = section-only file 2 (at-most-once .1)
+
+  abbrev m : List ℕ
+  m = manifestSection file
+
+  abbrev s : List ℕ
+  s = nodesSection file
+
+  names-means : Means (Applies file) (nameChecks file)
+  unfolding nameChecks
+  names-means =
+      means-parts (Applies file) (headerChecks file) (directoryChecks file ++ manifestChecks m) (header-means file) λ h.
+      let dir = header-directory file h in
+      means-parts (Applies file) (directoryChecks file) (manifestChecks m) (directory-means file dir) λ c.
+      manifest-means file m (first-section dir c) (first-only dir c)
+
+  pub all-means : Means (Applies file) (checks file)
+  unfolding checks nameChecks manifestChecks
+  all-means =
+      means-parts (Applies file) (nameChecks file) (nodeChecks m s) names-means λ h.
+      let (header, rest) = clear-parts (headerChecks file) _ .0 h in
+      let (c, manifest) = clear-parts (directoryChecks file) (manifestChecks m) .0 rest in
+      let dir = header-directory file header in
+      let (contents, is) = shaped-exactly m .0 (manifest .0) in
+      nodes-means file s (second-section dir c) (second-only dir c) m contents is
+      (the-manifest file m (first-section dir c) (first-only dir c) contents is)
+      (one-contents file m (first-section dir c) (first-only dir c) contents is)
+
+  -- the numbers of the rows ascend, one by one
+  pub names-ascend : Ascends 0 (nameChecks file)
+  unfolding nameChecks headerChecks directoryChecks manifestChecks
+  names-ascend = omega arith
+
+  pub ascending : Ascends 0 (checks file)
+  unfolding checks nameChecks headerChecks directoryChecks manifestChecks nodeChecks
+  ascending = omega arith
+
+  names-all : Consecutive 0 (nameChecks file)
+  unfolding nameChecks headerChecks directoryChecks manifestChecks
+  names-all = omega arith
+
+  checks-all : Consecutive 0 (checks file)
+  unfolding checks nameChecks headerChecks directoryChecks manifestChecks nodeChecks
+  checks-all = omega arith
+
+pub number-exactly : NumberExactly
+unfolding refusal checks nameChecks headerChecks directoryChecks manifestChecks nodeChecks
+number-exactly file n =
+    let first =
+    first-exactly (Applies file) (λ k x. bounds x .0) (checks file) (ascending file) (checks-all file) (all-means file) n in
+    (λ e. first .0 e .0, λ x. first .1 (x, bounds (x .applies) .1))
+
+pub none-exactly : NoneExactly
+unfolding refusal checks nameChecks headerChecks directoryChecks manifestChecks nodeChecks
+none-exactly file =
+    let first =
+    first-none (Applies file) (λ k x. bounds x .0) (checks file) (ascending file) (checks-all file) (all-means file) in
+    (λ e n x. first .0 e n (bounds x .1) x, λ f. first .1 (λ n h x. f n x))
+
+pub name-number-exactly : NameNumberExactly
+unfolding nameRefusal nameChecks headerChecks directoryChecks manifestChecks
+name-number-exactly file n =
+    first-exactly (Applies file) (λ k x. bounds x .0) (nameChecks file) (names-ascend file) (names-all file) (names-means file) n
+
+pub name-none-exactly : NameNoneExactly
+unfolding nameRefusal nameChecks headerChecks directoryChecks manifestChecks
+name-none-exactly file =
+    first-none (Applies file) (λ k x. bounds x .0) (nameChecks file) (names-ascend file) (names-all file) (names-means file)

@@ -1,0 +1,129 @@
+-- The entries that the checks read, and those that the grammar reads: the same, but that the first have no version and name their
+-- digest by its place.
+use Prim.Native.Nat.{ℕ, zero, suc, _+_, _≤_, _<_}
+use mathlib.Core.Path.{_≡_, refl, sym, ap, _∙_}
+use mathlib.Core.List.{List, [], _∷_}
+use mathlib.Core.Bool.{Bool, true, false, cond}
+use mathlib.Core.Logic.{_↔_}
+use native.Mathlib.Omega.{arith}
+use borrow.Author.Tests.{eqb-true, eqb-false, eq-eqb, ne-eqb}
+use lib.Dec.{eqb}
+use lib.ListN.{length}
+use Rattle.wire.specs.Wire.{span}
+use Rattle.wire.specs.Relations.{Among, here, there}
+use Rattle.bundle.specs.declared.directory.Entry.{Entry as Read}
+use Rattle.bundle.specs.Header.{sectionCount}
+use Rattle.bundle.specs.Directory.{entryAt, entriesFrom, entries, sectionOf, occurrences, entryOf, section}
+use Rattle.soundness.specs.FileGrammar.{Entry, Occurs, OccursAgain, again, later}
+use Rattle.soundness.proofs.FileFormat.{readHeader, readEntry, readEntries, readDirectory}
+
+-- how many entries have a type
+count : ℕ → List Entry → ℕ
+count kind [] = 0
+count kind (e ∷ es) = cond (eqb (e .kind) kind) (suc (count kind es)) (count kind es)
+
+module _ (kind : ℕ) where
+  some-counted : (es : List Entry) → 0 < count kind es → Occurs kind es
+  unfolding count
+  some-counted [] h = absurd (omega arith)
+  some-counted (e ∷ es) h = go (eqb (e .kind) kind) refl (some-counted es)
+    where
+      go : (b : Bool) → eqb (e .kind) kind ≡ b → (0 < count kind es → Occurs kind es) → Occurs kind (e ∷ es)
+      go true q rest = (e, here, eqb-true _ _ q)
+      go false q rest = let (x, a, k) = rest (rw q at h) in (x, there a, k)
+
+  counted-some : {es : List Entry} {e : Entry} → Among e es → e .kind ≡ kind → 0 < count kind es
+  unfolding count
+  counted-some {e = e} here k = rw (eq-eqb (e .kind) kind k) (omega arith)
+  counted-some (there {y = y} {xs = xs} a) k = go (eqb (y .kind) kind) (counted-some a k)
+    where
+      go : (b : Bool) → 0 < count kind xs → 0 < cond b (suc (count kind xs)) (count kind xs)
+      go true h = omega arith
+      go false h = h
+
+  more-counted : (es : List Entry) → 1 < count kind es → OccursAgain kind es
+  unfolding count
+  more-counted [] h = absurd (omega arith)
+  more-counted (e ∷ es) h = go (eqb (e .kind) kind) refl (more-counted es)
+    where
+      go : (b : Bool) → eqb (e .kind) kind ≡ b → (1 < count kind es → OccursAgain kind es) → OccursAgain kind (e ∷ es)
+      go true q rest =
+          let k : 1 < suc (count kind es) = rw q at h in again (eqb-true _ _ q) (some-counted es (omega arith))
+      go false q rest = later (rest (rw q at h))
+
+  counted-more : {es : List Entry} → OccursAgain kind es → 1 < count kind es
+  unfolding count
+  counted-more (again {e = e} {es = es} k (x, a, l)) = rw (eq-eqb (e .kind) kind k) (omega (arith, counted-some a l))
+  counted-more (later {e = e} {es = es} o) = go (eqb (e .kind) kind) (counted-more o)
+    where
+      go : (b : Bool) → 1 < count kind es → 1 < cond b (suc (count kind es)) (count kind es)
+      go true h = omega arith
+      go false h = h
+
+module _ (file : List ℕ) where
+  -- what is so of each
+  module _ (Q : Read → Type 0) (P : Entry → Type 0) (same : (p : ℕ) → Q (entryAt file p) ↔ P (readEntry file p)) where
+    each-forth : (n p : ℕ) → ((e : Read) → Among e (entriesFrom file n p) → Q e) →
+        (e : Entry) → Among e (readEntries file n p) → P e
+    unfolding entriesFrom readEntries
+    each-forth (suc n) p f e here = same p .0 (f (entryAt file p) here)
+    each-forth (suc n) p f e (there a) = each-forth n (p + 60) (λ x b. f x (there b)) e a
+
+    each-back : (n p : ℕ) → ((e : Entry) → Among e (readEntries file n p) → P e) →
+        (e : Read) → Among e (entriesFrom file n p) → Q e
+    unfolding entriesFrom readEntries
+    each-back (suc n) p f e here = same p .1 (f (readEntry file p) here)
+    each-back (suc n) p f e (there a) = each-back n (p + 60) (λ x b. f x (there b)) e a
+
+    pub each-mirrored : ((e : Read) → Among e (entries file) → Q e) ↔ ((e : Entry) → Among e (readDirectory file) → P e)
+    unfolding entries sectionCount readHeader
+    each-mirrored = (each-forth (sectionCount file) 32, each-back (sectionCount file) 32)
+
+  -- how often a type occurs
+  module _ (kind : ℕ) where
+    count-from : (n p : ℕ) → occurrences kind (entriesFrom file n p) ≡ count kind (readEntries file n p)
+    unfolding occurrences entriesFrom entryAt count readEntry readEntries
+    count-from zero p = refl
+    count-from (suc n) p = rw (count-from n (p + 60))
+
+    count-mirrored : occurrences kind (entries file) ≡ count kind (readDirectory file)
+    unfolding entries sectionCount readHeader
+    count-mirrored = count-from (sectionCount file) 32
+
+    pub once-mirrored : (occurrences kind (entries file) ≤ 1) ↔ (OccursAgain kind (readDirectory file) → ⊥)
+    once-mirrored = rw count-mirrored (
+      λ h o. omega (arith, counted-more kind o),
+      λ n. few (count kind (readDirectory file)) (λ h. n (more-counted kind (readDirectory file) h)),
+    )
+      where
+        few : (c : ℕ) → (1 < c → ⊥) → c ≤ 1
+        few c n = omega (arith, n)
+
+    pub again-mirrored : (1 < occurrences kind (entries file)) ↔ OccursAgain kind (readDirectory file)
+    again-mirrored = rw count-mirrored (more-counted kind (readDirectory file), counted-more kind)
+
+    pub there-mirrored : (0 < occurrences kind (entries file)) ↔ Occurs kind (readDirectory file)
+    there-mirrored =
+        rw count-mirrored (some-counted kind (readDirectory file), λ o. counted-some kind (o .1) (o .2))
+
+    -- the section of a type that occurs once
+    section-from : (n p : ℕ) (e : Entry) → Among e (readEntries file n p) → e .kind ≡ kind →
+        count kind (readEntries file n p) ≤ 1 →
+        sectionOf file (entryOf kind (entriesFrom file n p)) ≡ span file (e .offset) (e .size)
+    unfolding entryOf entriesFrom entryAt count readEntry readEntries
+    section-from (suc n) p e here k h = rw (eq-eqb (e .kind) kind k)
+    section-from (suc n) p e (there a) k h =
+        go (eqb (readEntry file p .kind) kind) refl (counted-some kind a k) (section-from n (p + 60) e a k)
+      where
+        go : (b : Bool) → eqb (readEntry file p .kind) kind ≡ b → 0 < count kind (readEntries file n (p + 60)) →
+            (count kind (readEntries file n (p + 60)) ≤ 1 →
+            sectionOf file (entryOf kind (entriesFrom file n (p + 60))) ≡ span file (e .offset) (e .size)) →
+            sectionOf file (entryOf kind (entriesFrom file (suc n) p)) ≡ span file (e .offset) (e .size)
+        go true q some rest =
+            let l : suc (count kind (readEntries file n (p + 60))) ≤ 1 = rw q at h in absurd (omega arith)
+        go false q some rest = rw q (rest (rw q at h))
+
+    pub section-mirrored : (e : Entry) → Among e (readDirectory file) → e .kind ≡ kind →
+        occurrences kind (entries file) ≤ 1 → section file kind ≡ span file (e .offset) (e .size)
+    unfolding section entries sectionCount readHeader
+    section-mirrored e a k h = section-from (sectionCount file) 32 e a k (rw count-mirrored at h)

@@ -1,0 +1,47 @@
+-- Whether waiting frames, the paper's waiting jobs, are sound.
+use Prim.Native.Nat.{ℕ, zero, suc, _*_, _≤_, _<_}
+use mathlib.Core.Path.{_≡_}
+use mathlib.Core.Bool.{Bool, true, _&&_, _||_}
+use mathlib.Core.List.{List, [], _∷_}
+use mathlib.Core.Logic.{_⊎_}
+use lib.Dec.{leb, ltb, eqb}
+use lib.ListN.{drop}
+use Rattle.table.specs.Frames.{frameWidth, frameRoom, Record, recordAt}
+use Rattle.table.specs.Holds.{ZeroFrom}
+
+-- ---- the test
+
+-- the tag is 1 to 3, every slot that the frame names is used, and the third word is 0 under tags 2 and 3
+unfoldable pub frameSound : ℕ → Record → Bool
+frameSound used r =
+    ltb (r .first) used
+    && ((eqb (r .tag) 1 && ltb (r .second) used) || ((eqb (r .tag) 2 || eqb (r .tag) 3) && eqb (r .second) 0))
+
+-- so are the first k frames
+unfoldable pub eachSound : ℕ → List ℕ → ℕ → Bool
+eachSound used j zero = true
+eachSound used j (suc k) = eachSound used j k && frameSound used (recordAt j k)
+
+unfoldable pub allZero : List ℕ → Bool
+allZero [] = true
+allZero (x ∷ xs) = eqb x 0 && allZero xs
+
+-- no more wait than there is room for, each of them is sound, and all words above them are 0
+unfoldable pub framesSound : ℕ → List ℕ → ℕ → Bool
+framesSound used j waiting =
+    leb waiting (frameRoom j) && (eachSound used j waiting && allZero (drop (frameWidth * waiting) j))
+
+-- ---- what it says
+
+-- three words are those of a job
+pub record SoundJob (used : ℕ) (r : Record) : Type 0 where
+  pub tag : (1 ≤ r .tag) × (r .tag ≤ 3)
+  pub first : r .first < used
+  pub second : r .tag ≡ 1 → r .second < used
+  pub third : (r .tag ≡ 2) ⊎ (r .tag ≡ 3) → r .second ≡ 0
+
+-- waiting jobs are sound
+pub record SoundJobs (used : ℕ) (j : List ℕ) (waiting : ℕ) : Type 0 where
+  pub fits : waiting ≤ frameRoom j
+  pub each : (k : ℕ) → k < waiting → SoundJob used (recordAt j k)
+  pub above : ZeroFrom j waiting
