@@ -9,15 +9,11 @@ use Rattle.manifest.specs.Content.{Export, names}
 use Rattle.bundle.specs.Directory.{manifestSection}
 use Rattle.bundle.specs.Checks.{refusal}
 use Rattle.bundle.specs.Exports.{nameCall}
-use Rattle.soundness.specs.ManifestGrammar.{Contents, IsManifest, manifest, counted}
 use Rattle.soundness.specs.Sound.{Described}
 use Rattle.soundness.proofs.ManifestMeaning.{reads-exports}
 use Rattle.soundness.proofs.Sections.{described-manifest}
-use Rattle.soundness.proofs.Meaning.{accepted-exactly, name-by-index}
+use Rattle.soundness.proofs.Meaning.{few-exports as few-listed, accepted-exactly, name-by-index}
 use Rattle.loader.specs.Load.{exportsIn}
-
-few-listed : {m : Contents} {s : List ℕ} → IsManifest m s → length (m .exports) ≤ 32
-few-listed (manifest a b c d e f g (counted n l h q) i j) = h
 
 short-name : (es : List Export) → ((e : Export) → Among e es → length (e .name) ≤ 64) → (i : ℕ) →
     length (getD (names es) i []) ≤ 64

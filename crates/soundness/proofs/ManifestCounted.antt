@@ -61,7 +61,7 @@ module _ {A : Type 0} (s : List ℕ) (kind : Kind) (past : ℕ → Parsed) (read
       (rw g k, rw (ends _ p g, h, m))
 
   counted-forth : (size : Size) {at e : ℕ} → countedEnd s kind size at ≡ To e →
-      (b : List ℕ) × Reads s at e b × IsCounted Is size (countedAt s past read at) b
+      (b : List ℕ) × Reads s at e b × IsCounted Is (size .least) (size .most) (countedAt s past read at) b
   counted-forth size {at} g =
       counted-number s kind size at g λ n h l u k.
       let (a, r, m) = number-reads s at 4 h in
@@ -69,7 +69,7 @@ module _ {A : Type 0} (s : List ℕ) (kind : Kind) (past : ℕ → Parsed) (read
       let xs = listFrom past read n (at + 4) in
       (a ++ b, reads-join r t, rw h (counted {xs = xs} {n = a} (rw q m) (rw q l) (rw q u) i))
 
-  counted-back : (size : Size) {at e : ℕ} {b : List ℕ} {xs : List A} → Reads s at e b → IsCounted Is size xs b →
+  counted-back : (size : Size) {at e : ℕ} {b : List ℕ} {xs : List A} → Reads s at e b → IsCounted Is (size .least) (size .most) xs b →
       (countedEnd s kind size at ≡ To e) × (countedAt s past read at ≡ xs)
   unfolding countedEnd
   counted-back size {at} r (counted {xs = xs} m l u i) =
@@ -79,7 +79,7 @@ module _ {A : Type 0} (s : List ℕ) (kind : Kind) (past : ℕ → Parsed) (read
       (rw (k, within-exactly size (length xs) .1 (l, u)) g, rw k h)
 
   pub counted-parses : (size : Size) →
-      Parses s (countedEnd s kind size) (countedAt s past read) (IsCounted Is size)
+      Parses s (countedEnd s kind size) (countedAt s past read) (IsCounted Is (size .least) (size .most))
   counted-parses size = record { forth = counted-forth size; back = counted-back size }
 
   -- the count is how many things are read
@@ -98,20 +98,20 @@ module _ (s : List ℕ) where
   text-kind = string-parses s
 
   pub text-counted : Parses s (countedEnd s Text capabilitiesSize) (countedAt s (sizedEnd s) (λ p. textAt s (To p)))
-      (IsCounted IsString capabilitiesSize)
+      (IsCounted IsString 0 4294967295)
   unfolding itemEnd
   text-counted = counted-parses s Text _ _ _ (string-past s) (string-parses s) capabilitiesSize
 
-  pub root-counted : Parses s (countedEnd s Root rootsSize) (rootsAt s) (IsCounted IsRoot rootsSize)
+  pub root-counted : Parses s (countedEnd s Root rootsSize) (rootsAt s) (IsCounted IsRoot 1 16)
   unfolding itemEnd rootsAt
   root-counted = counted-parses s Root _ _ _ (root-past s) (root-parses s) rootsSize
 
-  pub export-counted : Parses s (countedEnd s Export exportsSize) (exportsAt s) (IsCounted IsExport exportsSize)
+  pub export-counted : Parses s (countedEnd s Export exportsSize) (exportsAt s) (IsCounted IsExport 1 32)
   unfolding itemEnd exportsAt
   export-counted = counted-parses s Export _ _ _ (export-past s) (export-parses s) exportsSize
 
   pub field-counted : Parses s (countedEnd s Field fieldsSize) (countedAt s (fieldEnd s) (fieldAt s))
-      (IsCounted IsField fieldsSize)
+      (IsCounted IsField 0 16)
   unfolding itemEnd
   field-counted = counted-parses s Field _ _ _ (λ at e g. g) (field-parses s) fieldsSize
 

@@ -3,7 +3,7 @@ use Prim.Native.Nat.{ℕ, suc}
 use mathlib.Core.Path.{_≡_, refl, ap}
 use mathlib.Core.List.{List, [], _∷_}
 use mathlib.Core.Bool.{Bool, true, false}
-use mathlib.Core.Logic.{_↔_}
+use mathlib.Core.Logic.{_↔_, Iff·trans}
 use lib.ListN.{length}
 use Rattle.wire.specs.Wire.{sameBytes}
 use Rattle.wire.proofs.Bytes.{same-sound, same-true, not-both}
@@ -13,9 +13,15 @@ use Rattle.manifest_shape.specs.declared.parts.Kind.the-variants.{Text}
 use Rattle.manifest_shape.specs.Shape.{andThen, stringEnd, sizedEnd, itemEnd, itemsEnd}
 use Rattle.manifest.specs.Content.{textAt, textsFrom, listFrom}
 use Rattle.manifest.specs.Judged.{Wanted, exactly, anyText, meets, past, pastAll, nineStrings, stringsAgree}
-use Rattle.soundness.specs.ManifestMeaning.{Agree, none, same, any}
+use Rattle.soundness.specs.ManifestMeaning.{NineStrings, nine}
 use Rattle.soundness.proofs.ManifestParses.{then-to}
 use Rattle.soundness.proofs.ManifestPieces.{string-past}
+
+-- texts are what is wanted of them, one by one
+pub data Agree : List Wanted → List (List ℕ) → Type 0 where
+  none : Agree [] []
+  same : {t : List ℕ} {ws : List Wanted} {ts : List (List ℕ)} → Agree ws ts → Agree (exactly t ∷ ws) (t ∷ ts)
+  any : {t : List ℕ} {ws : List Wanted} {ts : List (List ℕ)} → Agree ws ts → Agree (anyText ∷ ws) (t ∷ ts)
 
 first-same : {v t : List ℕ} {ws : List Wanted} {ts : List (List ℕ)} → Agree (exactly v ∷ ws) (t ∷ ts) → (t ≡ v) × Agree ws ts
 first-same (same a) = (refl, a)
@@ -33,6 +39,18 @@ module _ (ws : List Wanted) (t : List ℕ) (ts : List (List ℕ)) (rest : Bool �
       test true q h = rw (same-sound t v q) (same (later .0 h))
       test false q h = not-both h lost
   agree-more anyText = (λ h. any (later .0 h), λ a. later .1 (first-any a))
+
+-- the nine that are wanted are those of document 01
+agreed-nine : (ts : List (List ℕ)) → Agree nineStrings ts → NineStrings ts
+unfolding nineStrings
+agreed-nine _ (same (same (same (same (same (same (same (any (same none))))))))) = nine _
+
+nine-agreed : (ts : List (List ℕ)) → NineStrings ts → Agree nineStrings ts
+unfolding nineStrings
+nine-agreed _ (nine e) = same (same (same (same (same (same (same (any (same none))))))))
+
+pub agree-nine : (ts : List (List ℕ)) → Agree nineStrings ts ↔ NineStrings ts
+agree-nine ts = (agreed-nine ts, nine-agreed ts)
 
 module _ (s : List ℕ) where
   -- the walk over some strings from a position on, where those before it agree or not
@@ -68,6 +86,6 @@ module _ (s : List ℕ) where
       (agree-more ws _ _ (walked (To q) ws) (stays-false (To q) ws) (walk-exactly ws q k) w)
 
   pub strings-exactly : (p : ℕ) {e : ℕ} → itemsEnd s Text 9 p ≡ To e →
-      (stringsAgree s p ≡ true) ↔ Agree nineStrings (textsFrom s 9 p)
+      (stringsAgree s p ≡ true) ↔ NineStrings (textsFrom s 9 p)
   unfolding stringsAgree nineStrings
-  strings-exactly p g = walk-exactly nineStrings p g
+  strings-exactly p g = Iff·trans (walk-exactly nineStrings p g) (agree-nine (textsFrom s 9 p))

@@ -20,7 +20,7 @@ use Rattle.manifest_shape.specs.declared.Manifest.the-variants.{Shape, Malforme
 use Rattle.manifest_shape.specs.Shape.{itemEnd, itemsEnd, countedEnd, sizedEnd, fieldEnd}
 use Rattle.manifest_shape.specs.Shape.{andThen, closureEnd, headEnd, place, ending, manifestOf}
 use Rattle.manifest.specs.Content.{textAt, textsFrom, rootsAt, exportsAt}
-use Rattle.soundness.specs.ManifestGrammar.{Contents, IsManifest, manifest}
+use Rattle.soundness.specs.ManifestGrammar.{Contents, IsHead, head, IsManifest, manifest}
 use Rattle.soundness.proofs.ManifestParses.{then-to, number-to, cond-to, bytes-reads, reads-bytes}
 use Rattle.soundness.proofs.ManifestPieces.{string-past, fieldAt, closure-parses}
 use Rattle.soundness.proofs.ManifestCounted.{countedAt, items-forth, items-back}
@@ -126,45 +126,52 @@ contentsAt s l =
       extensions = countedAt s (fieldEnd s) (fieldAt s) (place extensions);
     }
 
--- what a found layout reads is what the bytes are
-pub whole-forth : {s : List ℕ} {l : Layout} {metadata extensions : ℕ} → Laid s l metadata extensions →
-    IsManifest (contentsAt s l) s
+-- what a found layout reads is what the bytes are: up to the exports, and from there on
+head-reads : {s : List ℕ} {l : Layout} {metadata extensions : ℕ} → Laid s l metadata extensions →
+    (b : List ℕ) × Reads s 0 (l .exports) b × IsHead (contentsAt s l) b
 unfolding itemEnd
-whole-forth {s} {l} t =
+head-reads {s} {l} t =
     let (major, r1, m1, r2, m2) = head-forth s (t .head) in
     let (b3, r3, i3, l3) = items-forth s Text _ _ _ (string-past s) (text-kind s) 9 (r2 .fits) (t .strings) in
     let (b4, r4, i4) = text-counted s .forth (t .capabilities) in
     let (b5, r5, i5) = closure-parses s .forth (t .closure) in
     let (b6, r6, i6) = root-counted s .forth (t .roots) in
+    let minor : Number 2 (bigEndian (span s 10 2)) (span s 10 2) = record { size = m2; value = refl } in (
+      _,
+      reads-join r1 (reads-join r2 (reads-join r3 (reads-join r4 (reads-join (rw (i5 .1) at r5) r6)))),
+      head m1 minor l3 i3 i4 (i5 .0) i6,
+    )
+
+pub whole-forth : {s : List ℕ} {l : Layout} {metadata extensions : ℕ} → Laid s l metadata extensions →
+    IsManifest (contentsAt s l) s
+unfolding itemEnd
+whole-forth {s} {l} t =
+    let (h, r, i) = head-reads t in
     let (b7, r7, i7) = export-counted s .forth (t .exports) in
     let (b8, r8, i8) = field-counted s .forth (t .fields) in
     let (b9, r9, i9) = field-counted s .forth (t .rest) in
-    let tail = reads-join (rw (i5 .1) at r5) (reads-join r6 (reads-join r7 (reads-join r8 r9))) in
-    let minor : Number 2 (bigEndian (span s 10 2)) (span s 10 2) = record { size = m2; value = refl } in
-    subst (λ (b : List ℕ). IsManifest (contentsAt s l) b)
-    (all-reads (reads-join r1 (reads-join r2 (reads-join r3 (reads-join r4 tail)))))
-    (manifest {m = contentsAt s l} {metadata = b8} {extensions = b9}
-    m1 minor l3 i3 i4 (i5 .0) i6 i7 (rw (t .exports) i8) (rw (t .exports, t .fields) i9))
+    subst (λ (b : List ℕ). IsManifest (contentsAt s l) b) (all-reads (reads-join r (reads-join r7 (reads-join r8 r9))))
+    (manifest {metadata = b8} {extensions = b9} i i7 (rw (t .exports) i8) (rw (t .exports, t .fields) i9))
 
 -- and where the bytes are a manifest, its layout is found and reads it
 pub whole-back : {s b : List ℕ} {m : Contents} → Reads s 0 (length s) b → IsManifest m b →
     (l : Layout) × (manifestOf s ≡ Shape l) × (contentsAt s l ≡ m)
 unfolding itemEnd
-whole-back {s} r (manifest {m = m} {nine = nine} m1 m2 l3 i3 i4 i5 i6 i7 i8 i9) =
-    let (p1, t1, r1) = reads-split {b = magic} r in
+whole-back {s} {m = m} r (manifest (head {nine = nine} m1 m2 l3 i3 i4 i5 i6) i7 i8 i9) =
+    let (p7, t7, r7) = reads-split r in
+    let (p1, t1, r1) = reads-split {b = magic} t7 in
     let (p2, t2, r2) = reads-split r1 in
     let (p3, t3, r3) = reads-split r2 in
     let (p4, t4, r4) = reads-split {b = nine} r3 in
     let (p5, t5, r5) = reads-split r4 in
-    let (p6, t6, r6) = reads-split {b = m .closure ∷ []} r5 in
-    let (p7, t7, r7) = reads-split r6 in
+    let (p6, t6, u7) = reads-split {b = m .closure ∷ []} r5 in
     let (p8, t8, r8) = reads-split r7 in
     let (p9, t9, t10) = reads-split r8 in
     let (g3, h3) = head-back t1 t2 m1 t3 m2 in
     let (g4, h4) = items-back s Text _ _ _ (string-past s) (text-kind s) t4 i3 in
     let (g5, h5) = text-counted s .back t5 i4 in
     let (g6, h6) = closure-parses s .back t6 (i5, refl) in
-    let (g7, h7) = root-counted s .back t7 i6 in
+    let (g7, h7) = root-counted s .back u7 i6 in
     let (g8, h8) = export-counted s .back t8 i7 in
     let (g9, h9) = field-counted s .back t9 i8 in
     let (g10, h10) = field-counted s .back t10 i9 in

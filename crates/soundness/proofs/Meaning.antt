@@ -114,8 +114,8 @@ pub empty-name : EmptyName
 unfolding indexAsked
 empty-name file d = ap numbers (index-asked file (fine file d) [])
 
-few-exports : {m : Contents} {s : List ℕ} → IsManifest m s → length (m .exports) ≤ exportsSize .most
-few-exports (manifest a b c d e f g (counted n l most q) h i) = most
+pub few-exports : {m : Contents} {s : List ℕ} → IsManifest m s → length (m .exports) ≤ 32
+few-exports (manifest a (counted n l most q) h i) = most
 
 index-found : (xs : List (List ℕ)) (name : List ℕ) → length xs ≤ exportsSize .most →
     (f : Found) → indexOf name 0 xs ≡ f → numbers (answerOf f) .index < exportsSize .most

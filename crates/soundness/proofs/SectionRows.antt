@@ -19,8 +19,8 @@ use Rattle.nodes.specs.Links.{circular}
 use Rattle.bundle.specs.References.{unresolved}
 use Rattle.bundle.specs.Checks.{manifestChecks, nodeChecks}
 use Rattle.soundness.specs.FileGrammar.{SectionOf}
-use Rattle.soundness.specs.ManifestGrammar.{Contents, IsManifest, manifest}
-use Rattle.soundness.specs.ManifestMeaning.{Agree, same, any, Supported, Named}
+use Rattle.soundness.specs.ManifestGrammar.{Contents, head, IsManifest, manifest}
+use Rattle.soundness.specs.ManifestMeaning.{NineStrings, Supported, Named}
 use Rattle.soundness.specs.NodesGrammar.{IsPayload, IsRecord, node, IsNodes, nodes}
 use Rattle.soundness.specs.NodesMeaning.{Hashed, Closed}
 use Rattle.soundness.specs.Graph.{Circle}
@@ -30,6 +30,7 @@ use Rattle.soundness.specs.Applies.{manifest-shape, fixed-string, export
 use Rattle.soundness.specs.Applies.{nodes-shape, hash, hash-twice, child, circle, root, export}
 use Rattle.soundness.proofs.ManifestMeaning.{shaped-exactly, supported-exactly, named-exactly, one-manifest}
 use Rattle.soundness.proofs.ManifestMeaning.{reads-roots, reads-exports}
+use Rattle.soundness.proofs.ManifestStrings.{Agree, same, any, agree-nine}
 use Rattle.soundness.proofs.NodesMeaning.{shaped-exactly as nodes-exactly, reads-nodes, reads-children, hashed-exactly}
 use Rattle.soundness.proofs.NodesMeaning.{distinct-exactly, closed-exactly, circular-exactly}
 use Rattle.soundness.proofs.References.{resolved-exactly}
@@ -70,8 +71,11 @@ dec-agree (exactly w ∷ ws) (t ∷ ts) = elim (dec-same w t) [
 ]
 dec-agree (anyText ∷ ws) (t ∷ ts) = map-dec any agree-rest (dec-agree ws ts)
 
+dec-nine : (ts : List (List ℕ)) → Dec (NineStrings ts)
+dec-nine ts = let both = agree-nine ts in map-dec (both .0) (both .1) (dec-agree nineStrings ts)
+
 low-closure : {m : Contents} {s : List ℕ} → IsManifest m s → m .closure ≤ 1
-low-closure (manifest a b c d e f g h i j) = f
+low-closure (manifest (head a b c d e f g) h i j) = f
 
 -- m is the manifest section, and the only one
 module _ (file m : List ℕ) (is : SectionOf file 1 m) (only : (s : List ℕ) → SectionOf file 1 s → m ≡ s) where
@@ -90,7 +94,7 @@ module _ (file m : List ℕ) (is : SectionOf file 1 m) (only : (s : List ℕ) �
 
     unsupported-fault : (Supported c → ⊥) → Applies file 13
     unsupported-fault n =
-        elim (dec-agree nineStrings (c .strings)) [
+        elim (dec-nine (c .strings)) [
           | no k ↦ fixed-string the-manifest k
           | yes a ↦ elim (dec-each (λ e. e .abi ≡ abiName) (λ e. dec-same (e .abi) abiName) (c .exports)) [
             | no k ↦

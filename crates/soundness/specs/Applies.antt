@@ -9,9 +9,7 @@ use lib.ListN.{length}
 use Rattle.wire.specs.Wire.{ascii}
 use Rattle.wire.specs.Relations.{Among, Distinct}
 use Rattle.sha256_block.specs.Fips180.{sha256}
-use Rattle.sizes.specs.Sizes.{fileSize, sectionsSize, nameSize}
 use Rattle.manifest.specs.Content.{Root, Export, names}
-use Rattle.manifest.specs.Judged.{abiName, nineStrings}
 use Rattle.nodes.specs.Records.{Node, hashes}
 use Rattle.bundle.specs.Checks.{nameRefusal, refusal}
 use Rattle.soundness.specs.FileGrammar.{
@@ -26,7 +24,7 @@ use Rattle.soundness.specs.FileGrammar.{
   SectionOf,
 }
 use Rattle.soundness.specs.ManifestGrammar.{Contents, IsManifest}
-use Rattle.soundness.specs.ManifestMeaning.{Agree}
+use Rattle.soundness.specs.ManifestMeaning.{NineStrings}
 use Rattle.soundness.specs.NodesGrammar.{IsPayload, IsNodes}
 use Rattle.soundness.specs.Graph.{Circle}
 
@@ -39,13 +37,13 @@ pub data HasNodes (file : List ℕ) (rs : List Node) : Type 0 where
 
 pub data Applies (file : List ℕ) : ℕ → Type 0 where
   -- file over 65,536 bytes / under 32 / magic differs / major not 1
-  over : fileSize .most < length file → Applies file 1
-  under : length file < fileSize .least → Applies file 2
+  over : 65536 < length file → Applies file 1
+  under : length file < 32 → Applies file 2
   magic : {h : Header} → HasHeader h file → (h .magic ≡ ascii "ARBORICX" → ⊥) → Applies file 3
   major : {h : Header} → HasHeader h file → (h .major ≡ 1 → ⊥) → Applies file 4
   -- section count outside 1 to 16, directory offset not 32, or directory past the end of file
   sections : {h : Header} → HasHeader h file →
-      (h .sections < sectionsSize .least) ⊎ (sectionsSize .most < h .sections) → Applies file 5
+      (h .sections < 1) ⊎ (16 < h .sections) → Applies file 5
   directory-offset : {h : Header} → HasHeader h file → (h .directory ≡ 32 → ⊥) → Applies file 5
   directory-end : {h : Header} → HasHeader h file → length file < 32 + 60 * h .sections → Applies file 5
   -- some entry of unknown type is critical
@@ -69,14 +67,14 @@ pub data Applies (file : List ℕ) : ℕ → Type 0 where
   -- the manifest doesn't have the stated shape
   manifest-shape : {s : List ℕ} → SectionOf file 1 s → ((m : Contents) → IsManifest m s → ⊥) → Applies file 12
   -- a fixed string or export abi differs, a capability is listed, or closure is 1
-  fixed-string : {m : Contents} → HasManifest file m → (Agree nineStrings (m .strings) → ⊥) → Applies file 13
-  export-abi : {m : Contents} {e : Export} → HasManifest file m → Among e (m .exports) → (e .abi ≡ abiName → ⊥) →
-      Applies file 13
+  fixed-string : {m : Contents} → HasManifest file m → (NineStrings (m .strings) → ⊥) → Applies file 13
+  export-abi : {m : Contents} {e : Export} → HasManifest file m → Among e (m .exports) →
+      (e .abi ≡ ascii "arboricx.abi.tree.v1" → ⊥) → Applies file 13
   capability : {m : Contents} → HasManifest file m → (m .capabilities ≡ [] → ⊥) → Applies file 13
   closure : {m : Contents} → HasManifest file m → m .closure ≡ 1 → Applies file 13
   -- an export name is empty, over 64 bytes, or used twice
   name-size : {m : Contents} {e : Export} → HasManifest file m → Among e (m .exports) →
-      (length (e .name) < nameSize .least) ⊎ (nameSize .most < length (e .name)) → Applies file 14
+      (length (e .name) < 1) ⊎ (64 < length (e .name)) → Applies file 14
   name-twice : {m : Contents} → HasManifest file m → (Distinct (names (m .exports)) → ⊥) → Applies file 14
   -- the nodes section doesn't have the stated shape, or count outside 1 to 512
   nodes-shape : {s : List ℕ} → SectionOf file 2 s → ((rs : List Node) → IsNodes rs s → ⊥) → Applies file 15

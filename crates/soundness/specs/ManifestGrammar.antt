@@ -6,8 +6,6 @@ use lib.ListN.{length}
 use Rattle.wire.specs.Wire.{ascii}
 use Rattle.wire.specs.Relations.{Number, Sequence}
 use Rattle.utf8.specs.Rfc3629.{Utf8Octets}
-use Rattle.sizes.specs.Sizes.{capabilitiesSize, rootsSize, exportsSize, fieldsSize}
-use Rattle.sizes.specs.declared.Size.{Size}
 use Rattle.manifest.specs.Content.{Root, Export}
 
 pub record Field : Type 0 where
@@ -43,25 +41,29 @@ pub data IsField : Field → List ℕ → Type 0 where
   field : {t : ℕ} {v a n : List ℕ} → Number 2 t a → Number 4 (length v) n →
       IsField (record { tag = t; value = v }) (a ++ (n ++ v))
 
--- a u32 count within its size, and as many things
-pub data IsCounted {A : Type 0} (Is : A → List ℕ → Type 0) (size : Size) : List A → List ℕ → Type 0 where
-  counted : {xs : List A} {n a : List ℕ} → Number 4 (length xs) n → size .least ≤ length xs → length xs ≤ size .most →
-      Sequence Is xs a → IsCounted Is size xs (n ++ a)
+-- a u32 count from `least` to `most`, and as many things
+pub data IsCounted {A : Type 0} (Is : A → List ℕ → Type 0) (least most : ℕ) : List A → List ℕ → Type 0 where
+  counted : {xs : List A} {n a : List ℕ} → Number 4 (length xs) n → least ≤ length xs → length xs ≤ most →
+      Sequence Is xs a → IsCounted Is least most xs (n ++ a)
 
--- the eight bytes ARBMNFST; u16 major 1; u16 minor; nine strings; capability strings; one closure byte; roots; exports; metadata
--- fields; extension fields; then the end
-pub data IsManifest : Contents → List ℕ → Type 0 where
-  manifest : {m : Contents} {major minor nine capabilities roots exports metadata extensions : List ℕ} →
+-- up to the exports: the eight bytes ARBMNFST; u16 major 1; u16 minor; nine strings; capability strings, any count that fits a
+-- u32; one closure byte; 1 to 16 roots
+pub data IsHead (m : Contents) : List ℕ → Type 0 where
+  head : {major minor nine capabilities roots : List ℕ} →
       Number 2 1 major →
       Number 2 (m .minor) minor →
       length (m .strings) ≡ 9 →
       Sequence IsString (m .strings) nine →
-      IsCounted IsString capabilitiesSize (m .capabilities) capabilities →
+      IsCounted IsString 0 4294967295 (m .capabilities) capabilities →
       m .closure ≤ 1 →
-      IsCounted IsRoot rootsSize (m .roots) roots →
-      IsCounted IsExport exportsSize (m .exports) exports →
-      IsCounted IsField fieldsSize (m .metadata) metadata →
-      IsCounted IsField fieldsSize (m .extensions) extensions →
-      IsManifest m
-      (ascii "ARBMNFST" ++
-      (major ++ (minor ++ (nine ++ (capabilities ++ (m .closure ∷ (roots ++ (exports ++ (metadata ++ extensions)))))))))
+      IsCounted IsRoot 1 16 (m .roots) roots →
+      IsHead m (ascii "ARBMNFST" ++ (major ++ (minor ++ (nine ++ (capabilities ++ (m .closure ∷ roots))))))
+
+-- the whole manifest: then 1 to 32 exports; at most 16 metadata fields; at most 16 extension fields; then the end
+pub data IsManifest (m : Contents) : List ℕ → Type 0 where
+  manifest : {head exports metadata extensions : List ℕ} →
+      IsHead m head →
+      IsCounted IsExport 1 32 (m .exports) exports →
+      IsCounted IsField 0 16 (m .metadata) metadata →
+      IsCounted IsField 0 16 (m .extensions) extensions →
+      IsManifest m (head ++ (exports ++ (metadata ++ extensions)))

@@ -5,28 +5,37 @@ use mathlib.Core.Bool.{false}
 use mathlib.Core.Logic.{_↔_}
 use mathlib.Core.List.{List, [], _∷_}
 use lib.ListN.{length}
+use Rattle.wire.specs.Wire.{ascii}
 use Rattle.wire.specs.Relations.{Among, Distinct}
-use Rattle.sizes.specs.Sizes.{nameSize}
 use Rattle.manifest.specs.Content.{Root, Export, names}
-use Rattle.manifest.specs.Judged.{Wanted, exactly, anyText, abiName, nineStrings, malformed, unsupported, misnamed, rootsOf, exportsOf}
+use Rattle.manifest.specs.Judged.{malformed, unsupported, misnamed, rootsOf, exportsOf}
 use Rattle.soundness.specs.ManifestGrammar.{Contents, IsManifest}
 
--- texts are what is wanted of them, one by one
-pub data Agree : List Wanted → List (List ℕ) → Type 0 where
-  none : Agree [] []
-  same : {t : List ℕ} {ws : List Wanted} {ts : List (List ℕ)} → Agree ws ts → Agree (exactly t ∷ ws) (t ∷ ts)
-  any : {t : List ℕ} {ws : List Wanted} {ts : List (List ℕ)} → Agree ws ts → Agree (anyText ∷ ws) (t ∷ ts)
+-- the nine strings, in order; the eighth, evaluation, is any text
+pub data NineStrings : List (List ℕ) → Type 0 where
+  nine : (evaluation : List ℕ) →
+      NineStrings
+      (ascii "arboricx.bundle.manifest.v1" ∷
+      ascii "tree-calculus-executable-object" ∷
+      ascii "tree-calculus.v1" ∷
+      ascii "sha256" ∷
+      ascii "arboricx.merkle.node.v1" ∷
+      ascii "arboricx.merkle.payload.v1" ∷
+      ascii "tree-calculus.v1" ∷
+      evaluation ∷
+      ascii "arboricx.abi.tree.v1" ∷
+      [])
 
 -- the fixed strings are those of document 01, no capability is listed, and the closure is complete
 pub record Supported (m : Contents) : Type 0 where
-  pub strings : Agree nineStrings (m .strings)
-  pub abis : (e : Export) → Among e (m .exports) → e .abi ≡ abiName
+  pub strings : NineStrings (m .strings)
+  pub abis : (e : Export) → Among e (m .exports) → e .abi ≡ ascii "arboricx.abi.tree.v1"
   pub capabilities : m .capabilities ≡ []
   pub closure : m .closure ≡ 0
 
--- every export has a name of its own within the size
+-- every export has a name of its own, of 1 to 64 bytes
 pub record Named (m : Contents) : Type 0 where
-  pub sizes : (e : Export) → Among e (m .exports) → (nameSize .least ≤ length (e .name)) × (length (e .name) ≤ nameSize .most)
+  pub sizes : (e : Export) → Among e (m .exports) → (1 ≤ length (e .name)) × (length (e .name) ≤ 64)
   pub distinct : Distinct (names (m .exports))
 
 -- 12 does not hold exactly for the bytes of a manifest

@@ -4,7 +4,6 @@ use mathlib.Core.Path.{_≡_}
 use mathlib.Core.List.{List, [], _∷_, _++_}
 use lib.ListN.{length}
 use Rattle.wire.specs.Relations.{Number, Sequence}
-use Rattle.sizes.specs.Sizes.{nodesSize}
 use Rattle.nodes.specs.Records.{Node}
 
 -- the payload of a node with some children: `00` leaf; `01` and one hash, stem; `02` and two hashes, fork
@@ -18,7 +17,7 @@ pub data IsRecord : Node → List ℕ → Type 0 where
   node : {h n p : List ℕ} {cs : List (List ℕ)} → length h ≡ 32 → Number 4 (length p) n → IsPayload cs p →
       IsRecord (record { hash = h; payload = p }) (h ++ (n ++ p))
 
--- the section is a u64 count within the size, and as many records
+-- the section is a u64 count from 1 to 512, and as many records
 pub data IsNodes : List Node → List ℕ → Type 0 where
-  nodes : {rs : List Node} {n a : List ℕ} → Number 8 (length rs) n → nodesSize .least ≤ length rs →
-      length rs ≤ nodesSize .most → Sequence IsRecord rs a → IsNodes rs (n ++ a)
+  nodes : {rs : List Node} {n a : List ℕ} → Number 8 (length rs) n → 1 ≤ length rs → length rs ≤ 512 →
+      Sequence IsRecord rs a → IsNodes rs (n ++ a)

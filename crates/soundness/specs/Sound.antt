@@ -7,7 +7,6 @@ use lib.ListN.{length}
 use Rattle.wire.specs.Wire.{ascii}
 use Rattle.wire.specs.Relations.{Among, Distinct}
 use Rattle.sha256_block.specs.Fips180.{sha256}
-use Rattle.sizes.specs.Sizes.{fileSize, sectionsSize}
 use Rattle.manifest.specs.Content.{Root, Export}
 use Rattle.nodes.specs.Records.{Node, hashes}
 use Rattle.soundness.specs.FileGrammar.{Header, Entry, HasDirectory, IsSection, SectionOf, Known, OccursOnce}
@@ -32,13 +31,13 @@ pub record Described (file : List ℕ) : Type 0 where
   pub header : Header
   pub entries : List Entry
   pub manifest : Contents
-  -- the header, and the directory right behind it
-  pub most : length file ≤ fileSize .most
+  -- the header, and the directory right after it
+  pub most : length file ≤ 65536
   pub has-directory : HasDirectory header entries file
   pub magic : header .magic ≡ ascii "ARBORICX"
   pub major : header .major ≡ 1
-  pub sections-least : sectionsSize .least ≤ header .sections
-  pub sections-most : header .sections ≤ sectionsSize .most
+  pub sections-least : 1 ≤ header .sections
+  pub sections-most : header .sections ≤ 16
   pub directory-offset : header .directory ≡ 32
   -- the directory
   pub sound-entries : (e : Entry) → Among e entries → SoundEntry file e
