@@ -2,3 +2,4 @@ pub mod Cases
 pub mod DoneStays
 pub mod FuelCuts
 pub mod DoneExactly
+pub mod Stops

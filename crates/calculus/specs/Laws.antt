@@ -1,11 +1,31 @@
 -- What holds of every run of the reference machine. The proofs are in proofs/, a file for each statement.
-use Prim.Native.Nat.{ℕ, _+_, _-_, _≤_}
+use Prim.Native.Nat.{ℕ, _+_, _-_, _≤_, _<_}
 use mathlib.Core.Path.{_≡_}
-use mathlib.Core.List.{_++_, reverse}
+use mathlib.Core.List.{List, [], _++_, reverse}
+use mathlib.Core.Logic.{_↔_}
 use lib.ListN.{length}
-use Rattle.calculus.specs.Tree.{Tree}
-use Rattle.calculus.specs.Machine.{State, start, no-fuel, no-slot, no-place, Ending, ended, stopped, Outcome, run}
+use Rattle.calculus.specs.Tree.{Tree, leaf, stem, fork}
+use Rattle.calculus.specs.Rules.{Frame}
+use Rattle.calculus.specs.Machine.{State, start, Stop, no-fuel, no-slot, no-place, Ending, ended, stopped, Outcome, run}
 use Rattle.calculus.specs.BigStep.{_·_⇓_}
+
+-- "Before a step, in this order: no fuel, stop 31; rule 1 or 2 comes next and no slot is left, stop 32; rule 4 or 7 comes next and
+-- no job place is left, stop 33": when a run of f on x, with some frames that wait, stops before its first step
+pub data StopsAt (fuel free places : ℕ) : Tree → Tree → List Frame → Stop → Type 0 where
+  fuel-out : {f x : Tree} {js : List Frame} → fuel ≡ 0 → StopsAt fuel free places f x js no-fuel
+  slot-for-1 : {x : Tree} {js : List Frame} → 0 < fuel → free ≡ 0 → StopsAt fuel free places leaf x js no-slot
+  slot-for-2 : {a x : Tree} {js : List Frame} → 0 < fuel → free ≡ 0 → StopsAt fuel free places (stem a) x js no-slot
+  place-for-4 : {a b x : Tree} {js : List Frame} → 0 < fuel → places ≤ length js →
+      StopsAt fuel free places (fork (stem a) b) x js no-place
+  place-for-7 : {a b c u v : Tree} {js : List Frame} → 0 < fuel → places ≤ length js →
+      StopsAt fuel free places (fork (fork a b) c) (fork u v) js no-place
+
+-- A run takes no step and stops with a number exactly then.
+abbrev pub StopsExactly : Type 0
+StopsExactly =
+    (fuel free places : ℕ) (s : State) (why : Stop) →
+    (run fuel free places s ≡ record { ending = stopped why (s .f) (s .x) (reverse (s .frames)); steps = 0; made = [] })
+    ↔ StopsAt fuel free places (s .f) (s .x) (s .frames) why
 
 -- A run that is done stays done with at least as much of everything: the same tree, steps and nodes made.
 abbrev pub DoneStays : Type 0
