@@ -15,13 +15,12 @@ use Rattle.nodes.specs.Links.{linksOf, placedOf, circular}
 use Rattle.soundness.specs.Graph.{Child, named, Descendant, child, deeper, Circle}
 use Rattle.soundness.specs.NodesGrammar.{IsNodes}
 use Rattle.soundness.specs.NodesMeaning.{Closed}
-use Rattle.soundness.proofs.NodesHashes.{payload-children, node-payload, few-nodes}
+use Rattle.soundness.proofs.NodesHashes.{payload-children, payload-at, few-nodes}
 use Rattle.nodes.proofs.Children.{hashAt, number-of, record-at, link-child, child-link, links-ok, one-number}
 
 module _ (rs : List Node) {s : List ℕ} (are : IsNodes rs s) where
   link-named : (i j : ℕ) → i < length rs → byNumber.Child (linksOf rs) i j → Child rs (hashAt rs i) (hashAt rs j)
-  link-named i j l c =
-      let r = record-at rs i l in named r refl (node-payload are r) (link-child rs i j l c .1)
+  link-named i j l c = named (record-at rs i l) refl (payload-at are i l) (link-child rs i j l c .1)
 
   link-down : (i j : ℕ) → i < length rs → byNumber.Descends (linksOf rs) i j → Descendant rs (hashAt rs i) (hashAt rs j)
   link-down i j l (byNumber.child c) = child (link-named i j l c)

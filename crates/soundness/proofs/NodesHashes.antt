@@ -12,7 +12,7 @@ use Rattle.calculus.specs.Tree.{Tree}
 use Rattle.sizes.specs.Sizes.{nodesSize}
 use Rattle.nodes.specs.Records.{Node, childrenOf, children, nodeHash, hashes}
 use Rattle.nodes.proofs.Payloads.{children-none, children-one, children-two}
-use Rattle.nodes.proofs.Children.{one-record}
+use Rattle.nodes.proofs.Children.{at, childrenAt, record-at, one-record}
 use Rattle.soundness.specs.Graph.{Names, names-leaf, names-stem, names-fork}
 use Rattle.soundness.specs.NodesGrammar.{IsPayload, leaf, stem, fork, IsRecord, node, IsNodes, nodes}
 use Rattle.soundness.specs.NodesMeaning.{Hashed}
@@ -43,6 +43,10 @@ each-payload (next i s) (there a) = each-payload s a
 
 pub node-payload : {r : Node} {rs : List Node} {s : List ℕ} → IsNodes rs s → Among r rs → IsPayload (children r) (r .payload)
 node-payload (nodes n l m q) a = each-payload q a
+
+pub payload-at : {rs : List Node} {s : List ℕ} → IsNodes rs s → (i : ℕ) → i < length rs →
+    IsPayload (childrenAt rs i) (at rs i .payload)
+payload-at {rs} are i l = node-payload are (record-at rs i l)
 
 pub some-nodes : {rs : List Node} {s : List ℕ} → IsNodes rs s → 0 < length rs
 some-nodes (nodes n l m q) = omega arith

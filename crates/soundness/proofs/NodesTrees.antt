@@ -18,7 +18,7 @@ use Rattle.nodes.specs.Links.{linksOf, placedOf}
 use Rattle.soundness.specs.Graph.{Names, names-leaf, names-stem, names-fork}
 use Rattle.soundness.specs.NodesGrammar.{IsPayload, IsNodes}
 use Rattle.soundness.specs.NodesMeaning.{Closed}
-use Rattle.soundness.proofs.NodesHashes.{payload-children, node-payload, few-nodes}
+use Rattle.soundness.proofs.NodesHashes.{payload-children, payload-at, few-nodes}
 use Rattle.nodes.proofs.Children.{
   at,
   hashAt,
@@ -66,17 +66,14 @@ module _ (rs : List Node) {s : List ℕ} (are : IsNodes rs s) (closed : Closed r
   Named p = (i : ℕ) → i < length rs → 0 < getD (p .slots) i 0 → (t : Tree) × Names rs (hashAt rs i) t
 
   module _ (p : Placed) (i : ℕ) (h : Named p) (l : i < length rs) (r : ready (linksOf rs) (p .slots) i ≡ true) where
-    names-children : IsPayload (childrenAt rs i) (at rs i .payload)
-    names-children = node-payload are (record-at rs i l)
-
     child-named : (c : List ℕ) → Among c (childrenAt rs i) → (t : Tree) × Names rs c t
     child-named c a =
-        let (j, m, e, d) = child-link rs i l a (closed _ _ (record-at rs i l) names-children c a) in
+        let (j, m, e, d) = child-link rs i l a (closed _ _ (record-at rs i l) (payload-at are i l) c a) in
         let (t, n) = h j m (child-ok (linksOf rs) (p .slots) i j r d) in
         (t, rw e at n)
 
     placed-named : (t : Tree) × Names rs (hashAt rs i) t
-    placed-named = go (childrenAt rs i) names-children (kids-view _) child-named
+    placed-named = go (childrenAt rs i) (payload-at are i l) (kids-view _) child-named
       where
         go : (cs : List (List ℕ)) → IsPayload cs (at rs i .payload) → Kids cs →
             ((c : List ℕ) → Among c cs → (t : Tree) × Names rs c t) → (t : Tree) × Names rs (hashAt rs i) t
@@ -97,7 +94,7 @@ module _ (rs : List Node) {s : List ℕ} (are : IsNodes rs s) (closed : Closed r
   placed-all-named : Named (placedOf rs)
   unfolding placedOf placed
   placed-all-named = placing-keeps (linksOf rs) (length rs) Named put-named (length rs) (unplaced (nodesSize .most))
-      (λ i l o. absurd (omega (arith, few-nodes are, getD-replicate {A = ℕ} (nodesSize .most) i 0 0 (omega (arith, few-nodes are)))))
+      (λ i l o. absurd (omega (arith, getD-replicate {A = ℕ} (nodesSize .most) i 0 0 (omega (arith, few-nodes are)))))
 
   -- where placing does not stop short
   pub all-named : length rs ≤ placedOf rs .count → {r : Node} → Among r rs → (t : Tree) × Names rs (r .hash) t
