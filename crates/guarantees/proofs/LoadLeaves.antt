@@ -9,7 +9,6 @@ use lib.ListN.{length, getD, take, drop, length-append, length-drop}
 use lib.Seq.{take-at, drop-at, length-take-le}
 use lib.IntN.{ℤ, pos}
 use Rattle.wire.specs.Relations.{Among, here, there}
-use Rattle.sizes.specs.Sizes.{nodesSize}
 use Rattle.calculus.specs.Tree.{Tree}
 use Rattle.table.specs.Slots.{room}
 use Rattle.manifest.specs.Content.{Export}
@@ -19,9 +18,8 @@ use Rattle.nodes.proofs.Children.{hashes-at, number-of}
 use Rattle.bundle.specs.References.{exportHashes}
 use Rattle.bundle.proofs.Hashes.{export-hashes-length}
 use Rattle.soundness.specs.Graph.{Names}
-use Rattle.soundness.specs.NodesGrammar.{IsNodes, nodes}
+use Rattle.soundness.specs.NodesGrammar.{IsNodes}
 use Rattle.soundness.specs.Sound.{Sound}
-use Rattle.soundness.proofs.File.{few-nodes}
 use Rattle.soundness.proofs.NodesCircles.{short-exactly}
 use Rattle.soundness.proofs.Meaning.{one-tree-each}
 use Rattle.loader.specs.declared.LoadAnswer.{LoadAnswer}
@@ -32,15 +30,12 @@ use Rattle.loader.specs.Load.{unfit, loadRefusal, loaded, exportsWritten, accep
 use Rattle.guarantees.specs.Order.{TreesOf, none, more}
 use Rattle.guarantees.specs.Load.{NamedSlot, Loads, LoadLeaves}
 use Rattle.guarantees.proofs.PlacingOrder.{among-hash, placing-among, order, order-long, in-order}
-use Rattle.soundness.proofs.NodesHashes.{one-leaf}
+use Rattle.soundness.proofs.NodesHashes.{some-nodes, one-leaf}
 use Rattle.guarantees.proofs.LoadedTable.{named-holds, slot-order, written-untouched, table-holds}
 use Rattle.guarantees.proofs.LoadVerdict.{fitting, unrefused-exactly, load-unrefused, load-refused}
 use Rattle.guarantees.proofs.LoadAccepted.{nodes-read, exports-read, unrefused-loadable}
 
 -- ---- lists
-
-some-nodes : {rs : List Node} {s : List ℕ} → IsNodes rs s → 0 < length rs
-some-nodes (nodes n l m q) = omega arith
 
 -- the hash of the i-th export
 export-hash : (es : List Export) (i : ℕ) → i < length es →
@@ -75,21 +70,21 @@ module _ (file w out : List ℕ) (b : ℕ) (sound : Sound file) (inside : b ≤ 
   abbrev es : List Export
   es = sound .described .manifest .exports
 
-  few : length rs ≤ nodesSize .most
-  few = few-nodes (sound .is-nodes)
+  abbrev are : IsNodes rs (sound .nodes-bytes)
+  are = sound .is-nodes
 
   some : 0 < length rs
-  some = some-nodes (sound .is-nodes)
+  some = some-nodes are
 
   whole : length rs ≤ placedOf rs .count
   whole =
       elim (decLt (placedOf rs .count) (length rs)) [
-        | yes l ↦ absurd (sound .acyclic (short-exactly rs (sound .distinct) (sound .closed) few .0 l))
+        | yes l ↦ absurd (sound .acyclic (short-exactly rs are (sound .distinct) (sound .closed) .0 l))
         | no l ↦ omega (arith, l)
       ]
 
   abbrev placedAll : List Node
-  placedAll = order rs few (sound .distinct) (sound .closed) whole
+  placedAll = order rs are (sound .distinct) (sound .closed) whole
 
   abbrev table : List ℕ
   table = written rs 0 rs (drop b w)
@@ -115,10 +110,10 @@ module _ (file w out : List ℕ) (b : ℕ) (sound : Sound file) (inside : b ≤ 
       record {
         tree = t;
         names = names;
-        holds = named-holds rs few (sound .distinct) (sound .closed) whole (drop b w) fits names;
+        holds = named-holds rs are (sound .distinct) (sound .closed) whole (drop b w) fits names;
         placed =
             hashes-at placedAll (slotNamed rs h .0)
-            ∙ slot-order rs few (sound .distinct) (sound .closed) whole h i l (ap (λ (q : Node). q .hash) f ∙ e);
+            ∙ slot-order rs are (sound .distinct) (sound .closed) whole h i l (ap (λ (q : Node). q .hash) f ∙ e);
       }
 
   left-table : drop b left ≡ table
@@ -127,7 +122,7 @@ module _ (file w out : List ℕ) (b : ℕ) (sound : Sound file) (inside : b ≤ 
   pub loads : Loads file w (pos b) out left (exportsWritten rs es out) (numbers (Accepted (length rs) (length es)))
   unfolding exportsWritten
   loads =
-      let is-order = in-order rs few (sound .distinct) (sound .closed) whole some in
+      let is-order = in-order rs are (sound .distinct) (sound .closed) whole some in
       let (store, trees, long) = trees-of placedAll (λ r a. placing-among rs (is-order .placing) a) in
       let k = slots-long rs (exportHashes es) in
       let m = export-hashes-length es in
@@ -145,11 +140,11 @@ module _ (file w out : List ℕ) (b : ℕ) (sound : Sound file) (inside : b ≤ 
         trees = trees;
         holding =
             rw left-table
-            (table-holds rs few (sound .distinct) (sound .closed) whole (drop b w) fits
-            (one-leaf rs (sound .is-nodes) (sound .hashed) (sound .distinct)) some store trees
-            (long ∙ order-long rs few (sound .distinct) (sound .closed) whole));
+            (table-holds rs are (sound .distinct) (sound .closed) whole (drop b w) fits
+            (one-leaf rs (sound .hashed) (sound .distinct)) some store trees
+            (long ∙ order-long rs are (sound .distinct) (sound .closed) whole));
         before = take-at (take b w) table b (length-take-le b w inside);
-        untouched = rw left-table (written-untouched rs few (sound .distinct) (sound .closed) whole (drop b w) fits);
+        untouched = rw left-table (written-untouched rs are (sound .distinct) (sound .closed) whole (drop b w) fits);
         export-slots = λ i l.
             let (e, a, q) = export-hash es i l in
             rw (left-table, slots-at rs (exportHashes es) (drop (length es) out) i (omega arith))

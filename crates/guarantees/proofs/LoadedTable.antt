@@ -25,15 +25,20 @@ use Rattle.nodes.specs.Links.{linkTo, linkOf, placedOf}
 use Rattle.nodes.proofs.Children.{at, hashAt, childrenAt, number-of, record-at, Kids, none, one, two, kids-view, link-hash, child-link, one-number}
 use Rattle.nodes.proofs.Slots.{slot-some, slot-most, slot-single, slot-onto, slot-lower}
 use Rattle.soundness.specs.Graph.{Names, names-leaf, names-stem, names-fork}
+use Rattle.soundness.specs.NodesGrammar.{IsPayload, IsNodes}
 use Rattle.soundness.specs.NodesMeaning.{Closed}
+use Rattle.soundness.proofs.NodesHashes.{payload-children, payload-at, few-nodes}
 use Rattle.loader.specs.Written.{slotOf, slotFound, slotNamed, nodeOf, written}
 use Rattle.guarantees.specs.Session.{Holding}
 use Rattle.guarantees.specs.Order.{TreesOf, none as no-trees, more as more-trees}
 use Rattle.guarantees.proofs.PlacingOrder.{hash-among, order, order-long, at-slot}
 use Rattle.guarantees.proofs.WrittenSlots.{written-long, written-over, written-each}
 
-module _ (rs : List Record) (few : length rs ≤ nodesSize .most) (apart : Distinct (hashes rs)) (closed : Closed rs)
+module _ (rs : List Record) {s : List ℕ} (are : IsNodes rs s) (apart : Distinct (hashes rs)) (closed : Closed rs)
     (whole : length rs ≤ placedOf rs .count) where
+  few : length rs ≤ nodesSize .most
+  few = few-nodes are
+
   -- ---- the slots of records
 
   slot-below : (i : ℕ) → i < length rs → slotOf rs i .0 < length rs
@@ -58,21 +63,21 @@ module _ (rs : List Record) (few : length rs ≤ nodesSize .most) (apart : Disti
           absurd (index-none h 0 (hashes rs) q (subst (λ (x : List ℕ). Among x (hashes rs)) e (hash-among (record-at rs i l))))
 
   -- slot k is that of the k-th placed record
-  pub order-slot : (k : ℕ) → k < length rs → slotNamed rs (hashAt (order rs few apart closed whole) k) .0 ≡ k
+  pub order-slot : (k : ℕ) → k < length rs → slotNamed rs (hashAt (order rs are apart closed whole) k) .0 ≡ k
   unfolding slotOf
   order-slot k l =
       let (i, m, e) = slot-onto rs few whole k l in
       let z : getD (placedOf rs .slots) i 0 - 1 ≡ k = omega arith in
-      let o : at (order rs few apart closed whole) k ≡ at rs i = rw z at (at-slot rs few apart closed whole i m) in
+      let o : at (order rs are apart closed whole) k ≡ at rs i = rw z at (at-slot rs are apart closed whole i m) in
       subst (λ (r : Record). slotNamed rs (r .hash) .0 ≡ k) (sym o)
       (ap (λ (s : Slot). s .0) (named-slot (hashAt rs i) i m refl) ∙ z)
 
   -- and the record of a hash is placed there
   pub slot-order : (h : List ℕ) (i : ℕ) → i < length rs → hashAt rs i ≡ h →
-      hashAt (order rs few apart closed whole) (slotNamed rs h .0) ≡ h
+      hashAt (order rs are apart closed whole) (slotNamed rs h .0) ≡ h
   unfolding slotOf
   slot-order h i l e =
-      rw (named-slot h i l e) (ap (λ (r : Record). r .hash) (at-slot rs few apart closed whole i l) ∙ e)
+      rw (named-slot h i l e) (ap (λ (r : Record). r .hash) (at-slot rs are apart closed whole i l) ∙ e)
 
   -- ---- the written table
 
@@ -93,17 +98,17 @@ module _ (rs : List Record) (few : length rs ≤ nodesSize .most) (apart : Disti
     unfolding nodeOf
     named-holds {h} (names-leaf a e k) =
         let (i, l, f) = number-of a in
-        let c : childrenAt rs i ≡ [] = ap children f ∙ k in
+        let c : childrenAt rs i ≡ [] = ap children f ∙ payload-children k in
         rw (named-slot h i l (ap (λ (q : Record). q .hash) f ∙ e))
         (holds-leaf {i = slotOf rs i .0} (slot-below i l) (rw c at (each-has i l)))
     named-holds {h} (names-stem {a = x} a e k n) =
         let (i, l, f) = number-of a in
-        let c : childrenAt rs i ≡ x ∷ [] = ap children f ∙ k in
+        let c : childrenAt rs i ≡ x ∷ [] = ap children f ∙ payload-children k in
         rw (named-slot h i l (ap (λ (q : Record). q .hash) f ∙ e))
         (holds-stem {i = slotOf rs i .0} {a = slotNamed rs x .0} (slot-below i l) (rw c at (each-has i l)) (named-holds n))
     named-holds {h} (names-fork {a = x} {b = y} a e k n m) =
         let (i, l, f) = number-of a in
-        let c : childrenAt rs i ≡ x ∷ y ∷ [] = ap children f ∙ k in
+        let c : childrenAt rs i ≡ x ∷ y ∷ [] = ap children f ∙ payload-children k in
         rw (named-slot h i l (ap (λ (q : Record). q .hash) f ∙ e))
         (holds-fork {i = slotOf rs i .0} {a = slotNamed rs x .0} {b = slotNamed rs y .0} (slot-below i l)
         (rw c at (each-has i l)) (named-holds n) (named-holds m))
@@ -132,7 +137,7 @@ module _ (rs : List Record) (few : length rs ≤ nodesSize .most) (apart : Disti
     child-below : (i : ℕ) → i < length rs → {h : List ℕ} → Among h (childrenAt rs i) → slotNamed rs h .0 < slotOf rs i .0
     unfolding slotOf
     child-below i l {h} a =
-        let (j, m, e, c) = child-link rs i l a (closed _ (record-at rs i l) h a) in
+        let (j, m, e, c) = child-link rs i l a (closed _ _ (record-at rs i l) (payload-at are i l) h a) in
         rw (named-slot h j m e) (omega (arith, slot-some rs few whole j m, slot-lower rs few whole i j l c .1))
 
     node-below : (i : ℕ) → i < length rs → Below (slotOf rs i .0) (nodeOf rs (childrenAt rs i))
@@ -150,8 +155,8 @@ module _ (rs : List Record) (few : length rs ≤ nodesSize .most) (apart : Disti
     leaf-childless (a ∷ []) one e = let z : _≡_ {A = ℕ} 0 1 = cc in absurd (omega arith)
     leaf-childless (a ∷ b ∷ []) two e = let z : _≡_ {A = ℕ} 0 1 = cc in absurd (omega arith)
 
-    module _ (one-leaf : (r q : Record) → Among r rs → Among q rs → children r ≡ [] → children q ≡ [] → r ≡ q)
-        (some : 0 < length rs) where
+    module _ (one-leaf : (r q : Record) → Among r rs → Among q rs → IsPayload [] (r .payload) → IsPayload [] (q .payload) →
+        r ≡ q) (some : 0 < length rs) where
       -- a record with no children is in slot 0, since the one in slot 0 has none
       leaf-zero : (i : ℕ) → i < length rs → childrenAt rs i ≡ [] → slotOf rs i .0 ≡ 0
       unfolding slotOf
@@ -159,9 +164,10 @@ module _ (rs : List Record) (few : length rs ≤ nodesSize .most) (apart : Disti
           let (j, m, f) = slot-onto rs few whole 0 some in
           let z : slotOf rs j .0 ≡ 0 = omega arith in
           let c : childrenAt rs j ≡ [] = first-childless j m z (childrenAt rs j) refl (kids-view _) in
-          let q : i ≡ j
-          = one-number rs apart i j l m (ap (λ (r : Record). r .hash) (one-leaf (at rs i) (at rs j) (record-at rs i l) (record-at rs j m) e c))
-          in
+          let same : at rs i ≡ at rs j =
+          one-leaf (at rs i) (at rs j) (record-at rs i l) (record-at rs j m) (rw e at (payload-at are i l))
+          (rw c at (payload-at are j m)) in
+          let q : i ≡ j = one-number rs apart i j l m (ap (λ (r : Record). r .hash) same) in
           rw q z
         where
           first-childless : (j : ℕ) → j < length rs → slotOf rs j .0 ≡ 0 → (cs : List (List ℕ)) → childrenAt rs j ≡ cs →
@@ -186,7 +192,7 @@ module _ (rs : List Record) (few : length rs ≤ nodesSize .most) (apart : Disti
                 ));
           }
 
-      pub table-holds : (store : List Tree) → TreesOf rs (order rs few apart closed whole) store → length store ≡ length rs →
+      pub table-holds : (store : List Tree) → TreesOf rs (order rs are apart closed whole) store → length store ≡ length rs →
           Holding v (length rs) store
       table-holds store trees long =
           record {
@@ -194,7 +200,7 @@ module _ (rs : List Record) (few : length rs ≤ nodesSize .most) (apart : Disti
             some = some;
             long = long;
             each =
-                trees-from (order rs few apart closed whole) store 0 trees
-                (λ j l. order-slot j (omega (arith, order-long rs few apart closed whole)) ∙ sym (zero-add j));
+                trees-from (order rs are apart closed whole) store 0 trees
+                (λ j l. order-slot j (omega (arith, order-long rs are apart closed whole)) ∙ sym (zero-add j));
             zero = zero-leaf v (length rs) (slots-sound .sound) some;
           }

@@ -7,8 +7,9 @@ use native.Mathlib.Omega.{arith}
 use lib.ListN.{length, length-append}
 use Rattle.wire.specs.Relations.{Among, here, there, Distinct}
 use Rattle.calculus.specs.Tree.{Tree}
-use Rattle.nodes.specs.Records.{Node, children, hashes}
+use Rattle.nodes.specs.Records.{Node, hashes}
 use Rattle.nodes.proofs.Children.{number-of, one-record}
+use Rattle.soundness.specs.NodesGrammar.{IsPayload}
 use Rattle.soundness.specs.Graph.{Names}
 use Rattle.soundness.specs.Sound.{Sound}
 use Rattle.soundness.proofs.NodesTrees.{one-tree}
@@ -40,7 +41,7 @@ placing-some (leaf-record a e) = omega arith
 placing-some (next-record {placed = ps} {r = r} p e) = omega (arith, length-append ps (r ∷ []))
 
 module _ (rs : List Node)
-    (alone : (r q : Node) → Among r rs → Among q rs → children r ≡ [] → children q ≡ [] → r ≡ q) where
+    (alone : (r q : Node) → Among r rs → Among q rs → IsPayload [] (r .payload) → IsPayload [] (q .payload) → r ≡ q) where
   one-placing : {a b : List Node} → Placing rs a → Placing rs b → length a ≡ length b → a ≡ b
   one-placing (leaf-record {r = r} a e) (leaf-record {r = q} b f) l = cc (alone r q a b e f)
   one-placing (leaf-record a e) (next-record {placed = qs} {r = q} p f) l =
@@ -59,7 +60,7 @@ same-nodes s s′ = sym (nodes-read s′) ∙ nodes-read s
 
 pub one-order : OneOrder
 one-order file s s′ a b x y =
-    one-placing (s .nodes) (one-leaf (s .nodes) (s .is-nodes) (s .hashed) (s .distinct)) (x .placing)
+    one-placing (s .nodes) (one-leaf (s .nodes) (s .hashed) (s .distinct)) (x .placing)
     (rw (same-nodes s s′) at (y .placing)) (x .whole ∙ sym (ap length (same-nodes s s′)) ∙ sym (y .whole))
 
 module _ (rs : List Node) (apart : Distinct (hashes rs)) where
@@ -101,7 +102,7 @@ module _ {file : List ℕ} (sound : Sound file) where
       let (q, b, m) = tree-of x a in
       let z : q ≡ r
       = one-record (sound .nodes) (sound .distinct) (among q (there b)) (among r here)
-      (one-hash (sound .nodes) (sound .is-nodes) (sound .hashed) m n)
+      (one-hash (sound .nodes) (sound .hashed) m n)
       in
       fresh (rw z at b))
       (trees-distinct x (λ q b. among q (there b)) d)

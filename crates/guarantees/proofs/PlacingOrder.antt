@@ -14,12 +14,14 @@ use Rattle.placing.specs.Placing.{Placed, ready, put, unplaced, placed}
 use Rattle.placing.proofs.Views.{ready-view, ready-if, child-ok}
 use Rattle.placing.proofs.Steps.{placing-keeps-first}
 use Rattle.placing.proofs.Laid.{Laid, mine, unlike, put-laid, start-laid}
-use Rattle.nodes.specs.Records.{Node, children, hashes}
+use Rattle.nodes.specs.Records.{Node, hashes}
 use Rattle.nodes.specs.Links.{linksOf, placedOf}
 use Rattle.nodes.proofs.Slots.{slots-count, slot-some}
-use Rattle.nodes.proofs.Children.{at, hashAt, number-of, record-at, links-ok, Kids, none, one, two, kids-view, link-child, child-link, one-number}
+use Rattle.nodes.proofs.Children.{at, hashAt, number-of, record-at, links-ok, link-child, child-link, one-number}
+use Rattle.soundness.specs.NodesGrammar.{IsPayload, leaf, stem, fork, IsNodes}
 use Rattle.soundness.specs.NodesMeaning.{Closed}
 use Rattle.soundness.proofs.Each.{each-exactly}
+use Rattle.soundness.proofs.NodesHashes.{payload-children, node-payload, few-nodes}
 use Rattle.guarantees.specs.Order.{Ready, Earliest, Placing, leaf-record, next-record, Order}
 
 -- ---- lists
@@ -72,17 +74,15 @@ pub data Stages (rs : List Node) : List Node → Type 0 where
   start : Stages rs []
   step : {ps : List Node} {r : Node} → Stages rs ps → Earliest rs ps r → Stages rs (ps ++ (r ∷ []))
 
-module _ (rs : List Node) where
-  -- of the first record the children are all placed where none is, so it has none
-  childless : (r : Node) → Ready [] r → children r ≡ []
-  unfolding hashes
-  childless r ready = go (children r) (kids-view (r .payload)) ready
-    where
-      go : (cs : List (List ℕ)) → Kids cs → ((h : List ℕ) → Among h cs → Among h (hashes [])) → cs ≡ []
-      go [] none f = refl
-      go (a ∷ []) one f = absurd (omega (arith, among-index [] (f a here) .1))
-      go (a ∷ b ∷ []) two f = absurd (omega (arith, among-index [] (f a here) .1))
+-- of the first record the children are all placed where none is, so it has none
+childless : {cs : List (List ℕ)} {p : List ℕ} → IsPayload cs p → ((h : List ℕ) → Among h cs → Among h (hashes [])) →
+    IsPayload [] p
+unfolding hashes
+childless leaf f = leaf
+childless (stem {a = a} l) f = absurd (omega (arith, among-index [] (f a here) .1))
+childless (fork {a = a} l m) f = absurd (omega (arith, among-index [] (f a here) .1))
 
+module _ (rs : List Node) where
   pub among-middle : (r : Node) (before behind : List Node) → Among r (before ++ (r ∷ behind))
   among-middle r [] behind = here
   among-middle r (q ∷ before) behind = there (among-middle r before behind)
@@ -97,15 +97,20 @@ module _ (rs : List Node) where
       ⊎-elim (λ b. placing-among p b)
       (λ z. subst (λ (n : Node). Among n rs) (sym z) (earliest-among e)) (among-join ps a)
 
-  stages-placing : {ps : List Node} → Stages rs ps → (ps ≡ []) ⊎ Placing rs ps
-  stages-placing start = inl refl
-  stages-placing (step {ps = ps} {r = r} s e) = inr (go (stages-placing s))
+  stages-placing : {s : List ℕ} → IsNodes rs s → {ps : List Node} → Stages rs ps → (ps ≡ []) ⊎ Placing rs ps
+  stages-placing are start = inl refl
+  stages-placing are (step {ps = ps} {r = r} s e) = inr (go (stages-placing are s))
     where
       go : (ps ≡ []) ⊎ Placing rs ps → Placing rs (ps ++ (r ∷ []))
-      go (inl q) = rw q (leaf-record (earliest-among e) (childless r (rw q at (e .ready))))
+      go (inl q) =
+          let i = node-payload are (earliest-among e) in
+          rw q (leaf-record (earliest-among e) (childless i (rw q at (e .ready _ i))))
       go (inr p) = next-record p e
 
-module _ (rs : List Node) (few : length rs ≤ nodesSize .most) (apart : Distinct (hashes rs)) (closed : Closed rs) where
+module _ (rs : List Node) {s : List ℕ} (are : IsNodes rs s) (apart : Distinct (hashes rs)) (closed : Closed rs) where
+  few : length rs ≤ nodesSize .most
+  few = few-nodes are
+
   -- the records placed so far are those that have a slot, at the place of their slot
   pub record Traced (p : Placed) : Type 0 where
     pub laid : Laid (linksOf rs) (length rs) p
@@ -147,8 +152,9 @@ module _ (rs : List Node) (few : length rs ≤ nodesSize .most) (apart : Distinc
           omega (arith, ready-view (linksOf rs) (p .slots) i r .0)
 
       children-placed : Ready (t .ps) (at rs i)
-      children-placed h a =
-          let (j, m, e, c) = child-link rs i l a (closed (at rs i) (record-at rs i l) h a) in
+      children-placed cs k h a =
+          let (j, m, e, c) =
+          child-link rs i l (rw (payload-children k) a) (closed (at rs i) cs (record-at rs i l) k h a) in
           subst (λ (x : List ℕ). Among x (hashes (t .ps))) e
           (hash-among (slot-placed j m (child-ok (linksOf rs) (p .slots) i j r c)))
 
@@ -162,7 +168,8 @@ module _ (rs : List Node) (few : length rs ≤ nodesSize .most) (apart : Distinc
           ])
           (λ k c.
           let (o, d) = link-child rs j k m c in
-          let (x, y, g, u) = slot-of-hash (placed (hashAt rs k) (rw e at d)) in
+          let kids = node-payload are (rw e at (record-at rs j m)) in
+          let (x, y, g, u) = slot-of-hash (placed _ kids (hashAt rs k) (rw e at d)) in
           let z : x ≡ k = one-number rs apart x k y o u in
           rw z at g)
           (f j b)
@@ -211,7 +218,7 @@ module _ (rs : List Node) (few : length rs ≤ nodesSize .most) (apart : Distinc
         laid = start-laid (linksOf rs) (length rs) (nodesSize .most) few;
         ps = [];
         long = refl;
-        slots = λ i l g. absurd (omega (arith, getD-replicate {A = ℕ} (nodesSize .most) i 0 0 (omega arith)));
+        slots = λ i l g. absurd (omega (arith, getD-replicate {A = ℕ} (nodesSize .most) i 0 0 (omega (arith, few))));
         stages = start;
       }
 
@@ -238,7 +245,7 @@ module _ (rs : List Node) (few : length rs ≤ nodesSize .most) (apart : Distinc
 
     pub in-order : 0 < length rs → Order rs order
     unfolding order all-traced
-    in-order some = record { placing = go (stages-placing rs (all-traced .stages)); whole = order-long }
+    in-order some = record { placing = go (stages-placing rs are (all-traced .stages)); whole = order-long }
       where
         go : (order ≡ []) ⊎ Placing rs order → Placing rs order
         go (inl e) = absurd (omega (arith, ap length e, order-long))

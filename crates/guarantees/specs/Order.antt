@@ -6,12 +6,13 @@ use mathlib.Core.List.{List, [], _∷_, _++_}
 use lib.ListN.{length}
 use Rattle.wire.specs.Relations.{Among}
 use Rattle.calculus.specs.Tree.{Tree}
-use Rattle.nodes.specs.Records.{Node, children, hashes}
+use Rattle.nodes.specs.Records.{Node, hashes}
+use Rattle.soundness.specs.NodesGrammar.{IsPayload}
 use Rattle.soundness.specs.Graph.{Names}
 
 -- the children of a record are all placed
 abbrev pub Ready : List Node → Node → Type 0
-Ready placed r = (h : List ℕ) → Among h (children r) → Among h (hashes placed)
+Ready placed r = (cs : List (List ℕ)) → IsPayload cs (r .payload) → (h : List ℕ) → Among h cs → Among h (hashes placed)
 
 -- r is the earliest unplaced record of rs whose children are all placed
 pub record Earliest (rs placed : List Node) (r : Node) : Type 0 where
@@ -25,7 +26,7 @@ pub record Earliest (rs placed : List Node) (r : Node) : Type 0 where
 -- the records placed so far: "the leaf record in slot 0; then, again and again, the earliest unplaced record whose children
 -- are all placed gets the next slot"
 pub data Placing (rs : List Node) : List Node → Type 0 where
-  leaf-record : {r : Node} → Among r rs → children r ≡ [] → Placing rs (r ∷ [])
+  leaf-record : {r : Node} → Among r rs → IsPayload [] (r .payload) → Placing rs (r ∷ [])
   next-record : {placed : List Node} {r : Node} → Placing rs placed → Earliest rs placed r → Placing rs (placed ++ (r ∷ []))
 
 -- all records in the order of placing

@@ -11,11 +11,9 @@ use Rattle.wire.specs.Wire.{span}
 use Rattle.wire.specs.Relations.{Among}
 use Rattle.wire.proofs.Bytes.{not-both}
 use Rattle.sha256_block.specs.Fips180.{sha256}
-use Rattle.sizes.specs.Sizes.{fileSize, nodesSize}
+use Rattle.sizes.specs.Sizes.{fileSize}
 use Rattle.soundness.proofs.ManifestMeaning.{shaped-exactly, supported-exactly, named-exactly, reads-roots, reads-exports}
-use Rattle.nodes.specs.Records.{Node}
 use Rattle.nodes.specs.Links.{circular}
-use Rattle.soundness.specs.NodesGrammar.{IsNodes, nodes}
 use Rattle.soundness.proofs.NodesMeaning.{shaped-exactly as nodes-exactly, reads-nodes, hashed-exactly, distinct-exactly}
 use Rattle.soundness.proofs.NodesMeaning.{closed-exactly, circular-exactly}
 use Rattle.bundle.specs.Directory.{manifestSection, nodesSection}
@@ -37,9 +35,6 @@ use Rattle.soundness.proofs.References.{resolved-exactly}
 pub false-of : (b : Bool) → (b ≡ true → ⊥) → b ≡ false
 false-of true n = absurd (n refl)
 false-of false n = refl
-
-pub few-nodes : {rs : List Node} {s : List ℕ} → IsNodes rs s → length rs ≤ nodesSize .most
-few-nodes (nodes n l m q) = m
 
 module _ (file : List ℕ) where
   abbrev m : List ℕ
@@ -114,7 +109,7 @@ module _ (file : List ℕ) where
       let (rs, are) = nodes-exactly s .0 (not-false _ r15) in
       let e = reads-nodes s rs are in
       let distinct = distinct-exactly rs .0 (rw e at r17) in
-      let closed = closed-exactly rs .0 (rw e at r18) in
+      let closed = closed-exactly s rs are .0 (rw e at r18) in
       let (roots, exports) = resolved-exactly m s e (reads-roots m c is) (reads-exports m c is) .0 r20 in
       record {
         described = d;
@@ -125,7 +120,7 @@ module _ (file : List ℕ) where
         hashed = hashed-exactly rs .0 (rw e at r16);
         distinct = distinct;
         closed = closed;
-        acyclic = λ k. not-both (circular-exactly rs (few-nodes are) distinct closed .1 k) (rw e at r19);
+        acyclic = λ k. not-both (circular-exactly s rs are distinct closed .1 k) (rw e at r19);
         roots = roots;
         exports = exports;
       }
@@ -199,14 +194,14 @@ module _ (file : List ℕ) where
         let c = sound .described .manifest in
         let is = described-manifest (sound .described) in
         let e = reads-nodes s rs are in
-        let circles = circular-exactly rs (few-nodes are) (sound .distinct) (sound .closed) in (
+        let circles = circular-exactly s rs are (sound .distinct) (sound .closed) in (
           rw (nodes-exactly s .1 (rs, are)),
           (
             rw e (hashed-exactly rs .1 (sound .hashed)),
             (
               rw e (distinct-exactly rs .1 (sound .distinct)),
               (
-                rw e (closed-exactly rs .1 (sound .closed)),
+                rw e (closed-exactly s rs are .1 (sound .closed)),
                 (
                   rw e (false-of (circular rs) (λ q. sound .acyclic (circles .0 q))),
                   (resolved-exactly m s e (reads-roots m c is) (reads-exports m c is) .1 (sound .roots, sound .exports), tt),

@@ -10,6 +10,7 @@ pub mod NodesTests
 pub mod NodesCircles
 pub mod NodesTrees
 pub mod NodesHashes
+pub mod NodesSizes
 pub mod NodesMeaning
 pub mod FileFormat
 pub mod FileMeaning

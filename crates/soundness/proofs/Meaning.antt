@@ -16,6 +16,9 @@ use Rattle.sizes.specs.Sizes.{exportsSize}
 use Rattle.manifest.specs.Content.{names}
 use Rattle.manifest.specs.Judged.{exportsOf}
 use Rattle.soundness.proofs.ManifestMeaning.{reads-exports}
+use Rattle.nodes.proofs.Children.{record-at}
+use Rattle.soundness.proofs.NodesHashes.{some-nodes}
+use Rattle.soundness.proofs.NodesSizes.{nodes-most}
 use Rattle.soundness.proofs.NodesMeaning.{one-tree-each as one-tree-of}
 use Rattle.bundle.specs.Directory.{manifestSection}
 use Rattle.bundle.specs.Checks.{nameChecks, checks, nameRefusal, refusal}
@@ -23,13 +26,13 @@ use Rattle.bundle.specs.Exports.{namePart, indexAsked, indexCall, answerOf, num
 use Rattle.soundness.specs.Sound.{Described, Sound}
 use Rattle.soundness.specs.Applies.{Applies, Smallest}
 use Rattle.soundness.specs.Meaning.{DescribedExactly, AcceptedExactly, RefusedByLowest, OneTreeEach, NameByIndex, IndexByName}
-use Rattle.soundness.specs.Meaning.{OnlyCheck, NameInFile, NoSuchName, EmptyName, IndexBelow, NamesRefused}
+use Rattle.soundness.specs.Meaning.{OnlyCheck, LongestNodes, NameInFile, NoSuchName, EmptyName, IndexBelow, NamesRefused}
 use Rattle.soundness.specs.ManifestGrammar.{Contents, IsManifest, manifest, counted}
 use Rattle.bundle.proofs.Rows.{clear-first, first-clear}
 use Rattle.soundness.proofs.Smallest.{one-smallest}
 use Rattle.soundness.proofs.Applies.{names-ascend, ascending, number-exactly, name-number-exactly}
 use Rattle.soundness.proofs.Each.{each-exactly}
-use Rattle.soundness.proofs.File.{few-nodes, clear-described, clear-sound, described-clear, sound-clear}
+use Rattle.soundness.proofs.File.{clear-described, clear-sound, described-clear, sound-clear}
 use Rattle.soundness.proofs.Sections.{described-manifest}
 use Rattle.soundness.proofs.Calls.{names-length, found-there, name-read, part-inside, index-asked, asked-name}
 
@@ -70,7 +73,13 @@ only-check call accepts lowest file = go (lowest file) (refused-by-lowest file .
 
 pub one-tree-each : OneTreeEach
 one-tree-each file sound r a =
-    one-tree-of (sound .nodes) (few-nodes (sound .is-nodes)) (sound .distinct) (sound .closed) (sound .acyclic) r a
+    one-tree-of (sound .nodes-bytes) (sound .nodes) (sound .is-nodes) (sound .distinct) (sound .closed) (sound .acyclic) r a
+
+pub longest-nodes : LongestNodes
+longest-nodes file sound =
+    let are = sound .is-nodes in
+    let (t, names, _) = one-tree-each file sound _ (record-at (sound .nodes) 0 (some-nodes are)) in
+    omega (arith, nodes-most are names)
 
 -- a described file is not refused by 1 to 14, and its exports are read
 module _ (file : List ℕ) (d : Described file) where

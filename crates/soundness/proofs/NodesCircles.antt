@@ -1,5 +1,5 @@
 -- A node is its own descendant exactly where a record is by the links, and placing stops short exactly there (19).
-use Prim.Native.Nat.{ℕ, _≤_, _<_}
+use Prim.Native.Nat.{ℕ, _<_}
 use mathlib.Core.Path.{_≡_, refl, sym, _∙_}
 use mathlib.Core.Bool.{true}
 use mathlib.Core.Logic.{_↔_}
@@ -13,23 +13,27 @@ use Rattle.placing.proofs.Circles.{short-exactly-on-circles}
 use Rattle.nodes.specs.Records.{Node, hashes}
 use Rattle.nodes.specs.Links.{linksOf, placedOf, circular}
 use Rattle.soundness.specs.Graph.{Child, named, Descendant, child, deeper, Circle}
+use Rattle.soundness.specs.NodesGrammar.{IsNodes}
 use Rattle.soundness.specs.NodesMeaning.{Closed}
+use Rattle.soundness.proofs.NodesHashes.{payload-children, payload-at, few-nodes}
 use Rattle.nodes.proofs.Children.{hashAt, number-of, record-at, link-child, child-link, links-ok, one-number}
 
-module _ (rs : List Node) where
+module _ (rs : List Node) {s : List ℕ} (are : IsNodes rs s) where
+  link-named : (i j : ℕ) → i < length rs → byNumber.Child (linksOf rs) i j → Child rs (hashAt rs i) (hashAt rs j)
+  link-named i j l c = named (record-at rs i l) refl (payload-at are i l) (link-child rs i j l c .1)
+
   link-down : (i j : ℕ) → i < length rs → byNumber.Descends (linksOf rs) i j → Descendant rs (hashAt rs i) (hashAt rs j)
-  link-down i j l (byNumber.child c) = child (named (record-at rs i l) refl (link-child rs i j l c .1))
+  link-down i j l (byNumber.child c) = child (link-named i j l c)
   link-down i k l (byNumber.deeper {j = j} c d) =
-      let (m, a) = link-child rs i j l c in
-      deeper (named (record-at rs i l) refl a) (link-down j k m d)
+      deeper (link-named i j l c) (link-down j k (link-child rs i j l c .0) d)
 
   -- the other way round, from any record that has the hash
   module _ (apart : Distinct (hashes rs)) (closed : Closed rs) where
     child-down : {a b : List ℕ} → Child rs a b → (i : ℕ) × (i < length rs) × (hashAt rs i ≡ a) ×
         (j : ℕ) × (j < length rs) × (hashAt rs j ≡ b) × byNumber.Child (linksOf rs) i j
-    child-down {a} {b} (named {r = r} x e y) =
+    child-down {a} {b} (named {r = r} {cs = cs} x e p y) =
         let (i, l, f) = number-of x in
-        let (j, m, g, c) = child-link rs i l {h = b} (rw f y) (closed r x b y) in
+        let (j, m, g, c) = child-link rs i l {h = b} (rw (f, payload-children p) y) (closed r cs x p b y) in
         (i, l, (cc), j, m, g, c)
 
     abbrev Down : List ℕ → List ℕ → Type 0
@@ -54,13 +58,12 @@ module _ (rs : List Node) where
           (i, l, rw z at x),
     )
 
-    module _ (few : length rs ≤ nodesSize .most) where
-      pub short-exactly : (placedOf rs .count < length rs) ↔ Circle rs
-      unfolding placedOf
-      short-exactly =
-          let s = short-exactly-on-circles (linksOf rs) (length rs) (nodesSize .most) (links-ok rs few) in
-          (λ l. circle-exactly .0 (s .0 l), λ c. s .1 (circle-exactly .1 c))
+    pub short-exactly : (placedOf rs .count < length rs) ↔ Circle rs
+    unfolding placedOf
+    short-exactly =
+        let short = short-exactly-on-circles (linksOf rs) (length rs) (nodesSize .most) (links-ok rs (few-nodes are)) in
+        (λ l. circle-exactly .0 (short .0 l), λ c. short .1 (circle-exactly .1 c))
 
-      pub circular-iff : (circular rs ≡ true) ↔ Circle rs
-      unfolding circular
-      circular-iff = (λ e. short-exactly .0 (ltb-true _ _ e), λ c. lt-ltb _ _ (short-exactly .1 c))
+    pub circular-iff : (circular rs ≡ true) ↔ Circle rs
+    unfolding circular
+    circular-iff = (λ e. short-exactly .0 (ltb-true _ _ e), λ c. lt-ltb _ _ (short-exactly .1 c))

@@ -1,17 +1,18 @@
 -- The children of a record are those that its payload names, and no two records have the same. So just one has none, the leaf's;
--- and just one hash names a tree.
-use Prim.Native.Nat.{ℕ}
+-- and just one hash names a tree. And how many records a section has.
+use Prim.Native.Nat.{ℕ, _≤_, _<_}
 use mathlib.Core.Path.{_≡_, refl, sym, ap, _∙_}
 use mathlib.Core.List.{List, [], _∷_, _++_}
 use native.Mathlib.Omega.{arith}
-use lib.ListN.{take, length-append}
+use lib.ListN.{length, take, length-append}
 use lib.Seq.{take-all, take-at, drop-at}
 use Rattle.wire.specs.Relations.{Among, here, there, Distinct, Sequence, next}
 use Rattle.wire.proofs.Spans.{span-in}
 use Rattle.calculus.specs.Tree.{Tree}
+use Rattle.sizes.specs.Sizes.{nodesSize}
 use Rattle.nodes.specs.Records.{Node, childrenOf, children, nodeHash, hashes}
 use Rattle.nodes.proofs.Payloads.{children-none, children-one, children-two}
-use Rattle.nodes.proofs.Children.{one-record}
+use Rattle.nodes.proofs.Children.{at, childrenAt, record-at, one-record}
 use Rattle.soundness.specs.Graph.{Names, names-leaf, names-stem, names-fork}
 use Rattle.soundness.specs.NodesGrammar.{IsPayload, leaf, stem, fork, IsRecord, node, IsNodes, nodes}
 use Rattle.soundness.specs.NodesMeaning.{Hashed}
@@ -32,7 +33,7 @@ one-payload leaf leaf = refl
 one-payload (stem l) (stem m) = refl
 one-payload (fork l m) (fork l′ m′) = refl
 
-record-payload : {r : Node} {b : List ℕ} → IsRecord r b → IsPayload (children r) (r .payload)
+pub record-payload : {r : Node} {b : List ℕ} → IsRecord r b → IsPayload (children r) (r .payload)
 record-payload (node l m i) = rw (payload-children i) i
 
 each-payload : {r : Node} {rs : List Node} {b : List ℕ} → Sequence IsRecord rs b → Among r rs →
@@ -40,22 +41,32 @@ each-payload : {r : Node} {rs : List Node} {b : List ℕ} → Sequence IsRecord 
 each-payload (next i s) here = record-payload i
 each-payload (next i s) (there a) = each-payload s a
 
-node-payload : {r : Node} {rs : List Node} {s : List ℕ} → IsNodes rs s → Among r rs → IsPayload (children r) (r .payload)
+pub node-payload : {r : Node} {rs : List Node} {s : List ℕ} → IsNodes rs s → Among r rs → IsPayload (children r) (r .payload)
 node-payload (nodes n l m q) a = each-payload q a
 
-module _ (rs : List Node) {s : List ℕ} (are : IsNodes rs s) (hashed : Hashed rs) where
-  same-hash : (r q : Node) → Among r rs → Among q rs → children r ≡ children q → r .hash ≡ q .hash
+pub payload-at : {rs : List Node} {s : List ℕ} → IsNodes rs s → (i : ℕ) → i < length rs →
+    IsPayload (childrenAt rs i) (at rs i .payload)
+payload-at {rs} are i l = node-payload are (record-at rs i l)
+
+pub some-nodes : {rs : List Node} {s : List ℕ} → IsNodes rs s → 0 < length rs
+some-nodes (nodes n l m q) = omega arith
+
+pub few-nodes : {rs : List Node} {s : List ℕ} → IsNodes rs s → length rs ≤ nodesSize .most
+few-nodes (nodes n l m q) = m
+
+module _ (rs : List Node) (hashed : Hashed rs) where
+  same-hash : (r q : Node) {cs : List (List ℕ)} → Among r rs → Among q rs → IsPayload cs (r .payload) →
+      IsPayload cs (q .payload) → r .hash ≡ q .hash
   unfolding nodeHash
-  same-hash r q a b e =
-      let p : r .payload ≡ q .payload = one-payload (node-payload are a) (rw e (node-payload are b)) in
-      hashed r a ∙ ap nodeHash p ∙ sym (hashed q b)
+  same-hash r q a b i j = hashed r a ∙ ap nodeHash (one-payload i j) ∙ sym (hashed q b)
 
   pub one-hash : {h g : List ℕ} {t : Tree} → Names rs h t → Names rs g t → h ≡ g
-  one-hash (names-leaf {r = r} i e k) (names-leaf {r = q} j f l) = sym e ∙ same-hash r q i j (k ∙ sym l) ∙ f
+  one-hash (names-leaf {r = r} i e k) (names-leaf {r = q} j f l) = sym e ∙ same-hash r q i j k l ∙ f
   one-hash (names-stem {r = r} i e k n) (names-stem {r = q} j f l m) =
-      sym e ∙ same-hash r q i j (cc (one-hash n m)) ∙ f
+      sym e ∙ same-hash r q i j k (rw (one-hash n m) l) ∙ f
   one-hash (names-fork {r = r} i e k n o) (names-fork {r = q} j f l m p) =
-      sym e ∙ same-hash r q i j (cc (one-hash n m, one-hash o p)) ∙ f
+      sym e ∙ same-hash r q i j k (rw (one-hash n m, one-hash o p) l) ∙ f
 
-  pub one-leaf : Distinct (hashes rs) → (r q : Node) → Among r rs → Among q rs → children r ≡ [] → children q ≡ [] → r ≡ q
-  one-leaf apart r q a b e f = one-record rs apart a b (same-hash r q a b (e ∙ sym f))
+  pub one-leaf : Distinct (hashes rs) → (r q : Node) → Among r rs → Among q rs → IsPayload [] (r .payload) →
+      IsPayload [] (q .payload) → r ≡ q
+  one-leaf apart r q a b i j = one-record rs apart a b (same-hash r q a b i j)

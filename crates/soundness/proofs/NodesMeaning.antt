@@ -2,12 +2,14 @@
 use Prim.Native.Nat.{_<_}
 use native.Mathlib.Omega.{arith}
 use lib.ListN.{length}
-use Rattle.nodes.specs.Records.{nodeHash}
+use Rattle.nodes.specs.Records.{children, nodeHash}
 use Rattle.nodes.specs.Links.{placedOf}
 use Rattle.soundness.specs.NodesMeaning.{
   ShapedExactly,
   ReadsNodes,
   ReadsChildren,
+  HashedBytes,
+  LongestReached,
   HashedExactly,
   DistinctExactly,
   ClosedExactly,
@@ -19,7 +21,8 @@ use Rattle.soundness.proofs.NodesFormat.{shaped-nodes, nodes-shaped}
 use Rattle.soundness.proofs.NodesTests.{right-exactly, once-exactly, there-exactly}
 use Rattle.soundness.proofs.NodesCircles.{short-exactly, circular-iff}
 use Rattle.soundness.proofs.NodesTrees.{one-tree, all-named}
-use Rattle.soundness.proofs.NodesHashes.{payload-children, one-hash}
+use Rattle.soundness.proofs.NodesHashes.{payload-children, node-payload, one-hash}
+use Rattle.soundness.proofs.NodesSizes.{payload-length, one-leaf-length}
 
 pub shaped-exactly : ShapedExactly
 shaped-exactly s = (shaped-nodes s, λ h. nodes-shaped (h .1) .0)
@@ -30,6 +33,16 @@ reads-nodes s rs h = nodes-shaped h .1
 pub reads-children : ReadsChildren
 reads-children p cs i = payload-children i
 
+pub hashed-bytes : HashedBytes
+hashed-bytes p = (
+  λ i. omega (arith, payload-length i),
+  λ a i. omega (arith, payload-length i),
+  λ a b i. omega (arith, payload-length i),
+)
+
+pub longest-reached : LongestReached
+longest-reached r rs s are one many forks = omega (arith, one-leaf-length are one forks)
+
 pub hashed-exactly : HashedExactly
 unfolding nodeHash
 hashed-exactly rs = right-exactly rs rs
@@ -38,16 +51,20 @@ pub distinct-exactly : DistinctExactly
 distinct-exactly rs = once-exactly rs rs
 
 pub closed-exactly : ClosedExactly
-closed-exactly rs = there-exactly rs rs
+closed-exactly s rs are =
+    let (there, back) = there-exactly rs rs in (
+      λ e r cs a p h b. there e r a h (rw (payload-children p) b),
+      λ f. back (λ r a h b. f r (children r) a (node-payload are a) h b),
+    )
 
 pub circular-exactly : CircularExactly
-circular-exactly rs few apart closed = circular-iff rs apart closed few
+circular-exactly s rs are apart closed = circular-iff rs are apart closed
 
 pub one-tree-each : OneTreeEach
-one-tree-each rs few apart closed none r a =
-    let whole : placedOf rs .count < length rs → ⊥ = λ l. none (short-exactly rs apart closed few .0 l) in
-    let (t, n) = all-named rs closed few (omega arith) a in
+one-tree-each s rs are apart closed none r a =
+    let whole : placedOf rs .count < length rs → ⊥ = λ l. none (short-exactly rs are apart closed .0 l) in
+    let (t, n) = all-named rs are closed (omega arith) a in
     (t, n, λ u m. one-tree rs apart m n)
 
 pub one-hash-each : OneHashEach
-one-hash-each s rs are hashed h g t n m = one-hash rs are hashed n m
+one-hash-each rs hashed h g t n m = one-hash rs hashed n m

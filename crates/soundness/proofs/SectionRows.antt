@@ -8,9 +8,9 @@ use native.Mathlib.Omega.{arith}
 use native.Mathlib.Decide.{ℕ-discrete, decLe, map-dec}
 use borrow.Author.Tests.{not-false}
 use lib.ListN.{length}
-use Rattle.wire.specs.Relations.{Among, here, there, Distinct, Sequence, none, next}
+use Rattle.wire.specs.Relations.{Among, Distinct}
 use Rattle.wire.proofs.Tests.{not-exactly}
-use Rattle.sizes.specs.Sizes.{nameSize, nodesSize}
+use Rattle.sizes.specs.Sizes.{nameSize}
 use Rattle.manifest.specs.Content.{Root, Export, names}
 use Rattle.manifest.specs.Judged.{Wanted, exactly, anyText, abiName, nineStrings, malformed, unsupported, misnamed}
 use Rattle.nodes.specs.declared.faults.Fault.the-variants.{Hash, Twice, Child}
@@ -21,7 +21,7 @@ use Rattle.bundle.specs.Checks.{manifestChecks, nodeChecks}
 use Rattle.soundness.specs.FileGrammar.{SectionOf}
 use Rattle.soundness.specs.ManifestGrammar.{Contents, head, IsManifest, manifest}
 use Rattle.soundness.specs.ManifestMeaning.{NineStrings, Supported, Named}
-use Rattle.soundness.specs.NodesGrammar.{IsPayload, IsRecord, node, IsNodes, nodes}
+use Rattle.soundness.specs.NodesGrammar.{IsNodes}
 use Rattle.soundness.specs.NodesMeaning.{Hashed, Closed}
 use Rattle.soundness.specs.Graph.{Circle}
 use Rattle.soundness.specs.Applies as rows
@@ -31,7 +31,7 @@ use Rattle.soundness.specs.Applies.{nodes-shape, hash, hash-twice, child
 use Rattle.soundness.proofs.ManifestMeaning.{shaped-exactly, supported-exactly, named-exactly, one-manifest}
 use Rattle.soundness.proofs.ManifestMeaning.{reads-roots, reads-exports}
 use Rattle.soundness.proofs.ManifestStrings.{Agree, same, any, agree-nine}
-use Rattle.soundness.proofs.NodesMeaning.{shaped-exactly as nodes-exactly, reads-nodes, reads-children, hashed-exactly}
+use Rattle.soundness.proofs.NodesMeaning.{shaped-exactly as nodes-exactly, reads-nodes, hashed-exactly}
 use Rattle.soundness.proofs.NodesMeaning.{distinct-exactly, closed-exactly, circular-exactly}
 use Rattle.soundness.proofs.References.{resolved-exactly}
 use Rattle.soundness.proofs.Decides.{
@@ -44,7 +44,7 @@ use Rattle.soundness.proofs.Decides.{
   dec-each,
   row-exactly,
 }
-use Rattle.soundness.proofs.File.{few-nodes}
+use Rattle.soundness.proofs.NodesHashes.{payload-children, node-payload}
 use Rattle.soundness.proofs.Smallest.{Means}
 
 -- ---- 12 to 14
@@ -146,19 +146,6 @@ module _ (file m : List ℕ) (is : SectionOf file 1 m) (only : (s : List ℕ) �
 
 -- ---- 15 to 20
 
--- the payload of each record names its children
-record-payload : {r : Node} {b : List ℕ} → IsRecord r b → (cs : List (List ℕ)) × IsPayload cs (r .payload)
-record-payload (node {cs = cs} l n p) = (cs, p)
-
-sequence-payload : {rs : List Node} {b : List ℕ} {r : Node} → Sequence IsRecord rs b → Among r rs →
-    (cs : List (List ℕ)) × IsPayload cs (r .payload)
-sequence-payload (next i j) here = record-payload i
-sequence-payload (next i j) (there a) = sequence-payload j a
-
-pub payload-of : {rs : List Node} {s : List ℕ} {r : Node} → IsNodes rs s → Among r rs →
-    (cs : List (List ℕ)) × IsPayload cs (r .payload)
-payload-of (nodes n l u q) a = sequence-payload q a
-
 -- s is the nodes section, and the only one
 module _ (file s : List ℕ) (is : SectionOf file 2 s) (only : (t : List ℕ) → SectionOf file 2 t → s ≡ t) where
   row-15 : (not (shaped s) ≡ true) ↔ Applies file 15
@@ -201,23 +188,23 @@ module _ (file s : List ℕ) (is : SectionOf file 2 s) (only : (t : List ℕ) �
     dec-child h = dec-among h (hashes rs)
 
     row-18 : (someFaulty Child rs rs ≡ true) ↔ Applies file 18
-    row-18 = row-exactly _ (closed-exactly rs) fault clash
+    row-18 = row-exactly _ (closed-exactly s rs i) fault clash
       where
         fault : (Closed rs → ⊥) → Applies file 18
         fault n =
-            let (r, a, k) = not-each There (λ r. dec-each (λ h. Among h (hashes rs)) dec-child (children r)) rs n in
+            let (r, a, k) =
+            not-each There (λ r. dec-each (λ h. Among h (hashes rs)) dec-child (children r)) rs
+            (λ f. n (λ r cs a p h b. f r a h (rw (payload-children p) b))) in
             let (h, b, l) = not-each (λ h. Among h (hashes rs)) dec-child (children r) k in
-            let (cs, p) = payload-of i a in
-            child the-nodes a p (subst (Among h) (reads-children (r .payload) cs p) b) l
+            child the-nodes a (node-payload i a) b l
 
         clash : Applies file 18 → Closed rs → ⊥
         clash (child {r = r} {cs = cs} {h = h} k a p b n) f =
-            let q = one-nodes k in
-            n (rw q (f r (rw q at a) h (rw (reads-children (r .payload) cs p) b)))
+            let q = one-nodes k in n (rw q (f r cs (rw q at a) p h b))
 
     row-19 : Distinct (hashes rs) → Closed rs → (circular rs ≡ true) ↔ Applies file 19
     row-19 d f =
-        let circles = circular-exactly rs (few-nodes i) d f in (λ e. circle the-nodes (circles .0 e), back circles)
+        let circles = circular-exactly s rs i d f in (λ e. circle the-nodes (circles .0 e), back circles)
       where
         back : (circular rs ≡ true) ↔ Circle rs → Applies file 19 → circular rs ≡ true
         back circles (circle k o) = circles .1 (rw (one-nodes k) at o)
@@ -268,7 +255,7 @@ module _ (file s : List ℕ) (is : SectionOf file 2 s) (only : (t : List ℕ) �
                 rw q (row-18 rs i),
                 λ there.
                     let d = distinct-exactly rs .0 (rw q at twice) in
-                    let f = closed-exactly rs .0 (rw q at there) in
+                    let f = closed-exactly s rs i .0 (rw q at there) in
                     (rw q (row-19 rs i d f), λ _. (row-20 rs i m c j has single, λ _. tt)),
               ),
             ),

@@ -3,7 +3,7 @@
 -- answer of the checks is: the smallest number that applies. The proofs are in proofs/Applies.antt.
 use Prim.Native.Nat.{ℕ, _+_, _*_, _%_, _≤_, _<_}
 use mathlib.Core.Path.{_≡_}
-use mathlib.Core.List.{List, [], _∷_, _++_}
+use mathlib.Core.List.{List, []}
 use mathlib.Core.Logic.{_↔_, _⊎_}
 use lib.ListN.{length}
 use Rattle.wire.specs.Wire.{ascii}
@@ -26,6 +26,7 @@ use Rattle.soundness.specs.FileGrammar.{
 use Rattle.soundness.specs.ManifestGrammar.{Contents, IsManifest}
 use Rattle.soundness.specs.ManifestMeaning.{NineStrings}
 use Rattle.soundness.specs.NodesGrammar.{IsPayload, IsNodes}
+use Rattle.soundness.specs.NodesMeaning.{hashInput}
 use Rattle.soundness.specs.Graph.{Circle}
 
 -- the file's manifest, and its nodes: what the sections of type 1 and 2 are
@@ -80,7 +81,7 @@ pub data Applies (file : List ℕ) : ℕ → Type 0 where
   nodes-shape : {s : List ℕ} → SectionOf file 2 s → ((rs : List Node) → IsNodes rs s → ⊥) → Applies file 15
   -- a record's hash is wrong / two records carry the same hash
   hash : {rs : List Node} {r : Node} → HasNodes file rs → Among r rs →
-      (r .hash ≡ sha256 (ascii "arboricx.merkle.node.v1" ++ (0 ∷ r .payload)) → ⊥) → Applies file 16
+      (r .hash ≡ sha256 (hashInput (r .payload)) → ⊥) → Applies file 16
   hash-twice : {rs : List Node} → HasNodes file rs → (Distinct (hashes rs) → ⊥) → Applies file 17
   -- a child has no record / a node is its own descendant
   child : {rs : List Node} {r : Node} {cs : List (List ℕ)} {h : List ℕ} → HasNodes file rs → Among r rs →

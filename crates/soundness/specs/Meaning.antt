@@ -45,6 +45,10 @@ OneTreeEach =
     (file : List ℕ) (sound : Sound file) (r : Node) → Among r (sound .nodes) →
     (t : Tree) × Names (sound .nodes) (r .hash) t × ((u : Tree) → Names (sound .nodes) (r .hash) u → u ≡ t)
 
+-- no sound file has a longer nodes section
+abbrev pub LongestNodes : Type 0
+LongestNodes = (file : List ℕ) (sound : Sound file) → length (sound .nodes-bytes) ≤ 51656
+
 -- in a described file the name by index is the export's, and the empty part past the last
 abbrev pub NameByIndex : Type 0
 NameByIndex =

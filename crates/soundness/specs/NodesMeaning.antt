@@ -1,28 +1,33 @@
 -- What the tests of a nodes section mean, over what its bytes are. The proofs are in proofs/NodesMeaning.antt.
-use Prim.Native.Nat.{ℕ, _≤_}
+use Prim.Native.Nat.{ℕ}
 use mathlib.Core.Path.{_≡_}
 use mathlib.Core.Bool.{true, false}
 use mathlib.Core.Logic.{_↔_}
-use mathlib.Core.List.{List, _∷_, _++_}
+use mathlib.Core.List.{List, [], _∷_, _++_}
 use lib.ListN.{length}
 use Rattle.wire.specs.Wire.{ascii}
 use Rattle.wire.specs.Relations.{Among, Distinct}
 use Rattle.sha256_block.specs.Fips180.{sha256}
-use Rattle.sizes.specs.Sizes.{nodesSize}
 use Rattle.calculus.specs.Tree.{Tree}
 use Rattle.nodes.specs.declared.faults.Fault.the-variants.{Hash, Twice, Child as NoChild}
-use Rattle.nodes.specs.Records.{Node, childrenOf, children, shaped, nodesOf, hashes, someFaulty}
+use Rattle.nodes.specs.Records.{Node, childrenOf, shaped, nodesOf, hashes, someFaulty}
 use Rattle.nodes.specs.Links.{circular}
 use Rattle.soundness.specs.Graph.{Circle, Names}
 use Rattle.soundness.specs.NodesGrammar.{IsPayload, IsNodes}
 
--- each record carries the hash of its payload: SHA-256 of the 23 bytes, a zero byte, the payload
+-- what is hashed of a payload: the 23 bytes `arboricx.merkle.node.v1`, a zero byte, the payload
+abbrev pub hashInput : List ℕ → List ℕ
+hashInput p = ascii "arboricx.merkle.node.v1" ++ (0 ∷ p)
+
+-- each record carries the hash of its payload
 abbrev pub Hashed : List Node → Type 0
-Hashed rs = (r : Node) → Among r rs → r .hash ≡ sha256 (ascii "arboricx.merkle.node.v1" ++ (0 ∷ r .payload))
+Hashed rs = (r : Node) → Among r rs → r .hash ≡ sha256 (hashInput (r .payload))
 
 -- every child has a record
 abbrev pub Closed : List Node → Type 0
-Closed rs = (r : Node) → Among r rs → (h : List ℕ) → Among h (children r) → Among h (hashes rs)
+Closed rs =
+    (r : Node) (cs : List (List ℕ)) → Among r rs → IsPayload cs (r .payload) →
+    (h : List ℕ) → Among h cs → Among h (hashes rs)
 
 -- 15 does not hold exactly for the bytes of some records, and those are read
 abbrev pub ShapedExactly : Type 0
@@ -35,6 +40,19 @@ ReadsNodes = (s : List ℕ) (rs : List Node) → IsNodes rs s → nodesOf s ≡ 
 abbrev pub ReadsChildren : Type 0
 ReadsChildren = (p : List ℕ) (cs : List (List ℕ)) → IsPayload cs p → childrenOf p ≡ cs
 
+-- "25, 57 or 89 bytes in all"
+abbrev pub HashedBytes : Type 0
+HashedBytes =
+    (p : List ℕ) → (IsPayload [] p → length (hashInput p) ≡ 25) ×
+    ((a : List ℕ) → IsPayload (a ∷ []) p → length (hashInput p) ≡ 57) ×
+    ((a b : List ℕ) → IsPayload (a ∷ b ∷ []) p → length (hashInput p) ≡ 89)
+
+-- one leaf's record and 511 forks' are a section of 51,656 bytes
+abbrev pub LongestReached : Type 0
+LongestReached =
+    (r : Node) (rs : List Node) (s : List ℕ) → IsNodes (r ∷ rs) s → IsPayload [] (r .payload) → length rs ≡ 511 →
+    ((q : Node) → Among q rs → (a : List ℕ) × (b : List ℕ) × IsPayload (a ∷ b ∷ []) (q .payload)) → length s ≡ 51656
+
 -- nor 16 where each record carries its hash, nor 17 where no two carry one, nor 18 where every child is there
 abbrev pub HashedExactly : Type 0
 HashedExactly = (rs : List Node) → (someFaulty Hash rs rs ≡ false) ↔ Hashed rs
@@ -43,21 +61,19 @@ abbrev pub DistinctExactly : Type 0
 DistinctExactly = (rs : List Node) → (someFaulty Twice rs rs ≡ false) ↔ Distinct (hashes rs)
 
 abbrev pub ClosedExactly : Type 0
-ClosedExactly = (rs : List Node) → (someFaulty NoChild rs rs ≡ false) ↔ Closed rs
+ClosedExactly = (s : List ℕ) (rs : List Node) → IsNodes rs s → (someFaulty NoChild rs rs ≡ false) ↔ Closed rs
 
--- 19 holds exactly when some node is its own descendant, where 17 and 18 do not hold
+-- 19 holds exactly when some node is its own descendant, where 15, 17 and 18 do not hold
 abbrev pub CircularExactly : Type 0
 CircularExactly =
-    (rs : List Node) → length rs ≤ nodesSize .most → Distinct (hashes rs) → Closed rs → (circular rs ≡ true) ↔ Circle rs
+    (s : List ℕ) (rs : List Node) → IsNodes rs s → Distinct (hashes rs) → Closed rs → (circular rs ≡ true) ↔ Circle rs
 
--- the hash of every record names exactly one tree, where 17, 18 and 19 do not hold
+-- the hash of every record names exactly one tree, where 15, 17, 18 and 19 do not hold
 abbrev pub OneTreeEach : Type 0
 OneTreeEach =
-    (rs : List Node) → length rs ≤ nodesSize .most → Distinct (hashes rs) → Closed rs → (Circle rs → ⊥) →
+    (s : List ℕ) (rs : List Node) → IsNodes rs s → Distinct (hashes rs) → Closed rs → (Circle rs → ⊥) →
     (r : Node) → Among r rs → (t : Tree) × Names rs (r .hash) t × ((u : Tree) → Names rs (r .hash) u → u ≡ t)
 
--- and no two hashes name one tree, where 15 and 16 do not hold
+-- and no two hashes name one tree, where 16 does not hold
 abbrev pub OneHashEach : Type 0
-OneHashEach =
-    (s : List ℕ) (rs : List Node) → IsNodes rs s → Hashed rs →
-    (h g : List ℕ) (t : Tree) → Names rs h t → Names rs g t → h ≡ g
+OneHashEach = (rs : List Node) → Hashed rs → (h g : List ℕ) (t : Tree) → Names rs h t → Names rs g t → h ≡ g
