@@ -254,7 +254,7 @@ module _ (w j : List ℕ) (s : State) (p : machine.State) (sim : Sim w j s p) wh
         | yes g ↦
             let v = putNode w n node in
             let grown = grown-one w n node t (put g) in
-            let good = sound-next w n node (sim .slots) g (omega (arith, held-below (sim .f))) below inner in
+            let good = sound-next w n node (sim .slots) g below inner in
             rw (lt-ltb n (room w) g, lt-ltb 0 (room w - n) (omega arith))
             (meets w j s v (n + 1) (t ∷ []) grown good n t (put g) (s .waiting) (p .frames)
             (frames-kept w n j (grown .old) (s .waiting) (p .frames) (sim .frames)) (sim .fits) (sim .above))
