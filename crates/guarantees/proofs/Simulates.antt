@@ -24,7 +24,7 @@ use Rattle.table.specs.Frames.{frameRoom, Record, recordOf, recordAt, putFrame,
 use Rattle.table.specs.Holds.{Holds, HoldsFrom, Kept, Untouched, StandFrom, ZeroFrom}
 use Rattle.table.specs.Holds.{Stands, stands-operand, stands-argument, stands-function}
 use Rattle.table.proofs.SlotLaws.{room-long}
-use Rattle.table.proofs.SoundLaws.{sound-next}
+use Rattle.table.proofs.SoundLaws.{slots-sound, sound-next}
 use Rattle.table.proofs.FrameLaws.{frame-room-long, frame-is, length-put-frame, record-here, record-other, zero-over}
 use Rattle.table.proofs.FrameLaws.{length-drop, record-dropped, zero-drop, stands-kept}
 use Rattle.table.proofs.HoldsLaws.{held-below, leaf-view, stem-view, fork-view, put-keeps, put-stem, put-fork}
@@ -120,12 +120,13 @@ grown-one w n node t h =
 leaves-here : {w v : List ℕ} {n m : ℕ} {made : List Tree} (j : List ℕ) {waiting : ℕ} → Grown w n v m made → Sound v m →
     0 < m → waiting ≤ frameRoom j → ZeroFrom j waiting → Leaves w n j v m j made waiting
 leaves-here {v = v} {m = m} j grown good some places above =
+    let slots = slots-sound v m .0 good in
     record {
       new = grown .new;
       old = grown .old;
       untouched = grown .untouched;
-      slots = good;
-      zero = zero-leaf v m (good .sound) some;
+      slots = slots;
+      zero = zero-leaf v m slots some;
       long = refl;
       places = places;
       above = above;
