@@ -62,7 +62,7 @@ module _ {w w′ j v k v′ k′ : List ℕ} {n q : ℕ} (s : SameSince n q w w�
       let m = q + length made in
       record {
         slots = since-grows l l′;
-        long = l .long ∙ sym (l′ .long);
+        long = omega (arith, l .long, l′ .long);
         jobs = standing-sound v m k frames (l .places) h (l .above);
         jobs′ = standing-sound v′ m k′ frames (l′ .places) h′ (l′ .above);
         stand = h;

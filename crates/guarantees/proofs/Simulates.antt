@@ -127,9 +127,9 @@ leaves-here {v = v} {m = m} j grown good some places above =
       untouched = grown .untouched;
       slots = slots;
       zero = zero-leaf v m slots some;
-      long = refl;
+      long = omega arith;
       places = places;
-      above = above;
+      above = λ i h. above i (omega arith);
     }
 
 -- ---- a rule
@@ -341,7 +341,7 @@ module _ (w j v k : List ℕ) (n m : ℕ) (made : List Tree) (grown : Grown w n 
         untouched = untouched-trans (omega (arith, grown .count)) h (grown .untouched) (l .untouched);
         slots = l .slots;
         zero = l .zero;
-        long = l .long ∙ long;
+        long = omega (arith, l .long, long);
         places = l .places;
         above = l .above;
       }
