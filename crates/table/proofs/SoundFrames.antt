@@ -12,10 +12,8 @@ use lib.Seq.{getD-drop}
 use borrow.Author.Tests.{lt-ltb, ltb-true, le-leb, leb-true, eq-eqb, ne-eqb, eqb-true}
 use Rattle.calculus.specs.Tree.{Tree}
 use Rattle.calculus.specs.Rules.{Frame, operand, argument, function}
-use Rattle.table.specs.declared.frames.Frame.the-variants.{Operand, Argument, Function}
-use Rattle.table.specs.Slots.{slot}
 use Rattle.table.specs.Sound.{SoundSlots}
-use Rattle.table.specs.Frames.{frameWidth, frameRoom, Record, recordOf, recordAt}
+use Rattle.table.specs.Frames.{frameWidth, frameRoom, Record, recordAt}
 use Rattle.table.specs.Holds.{Holds, Stands, stands-operand, stands-argument, stands-function, StandFrom, ZeroFrom}
 use Rattle.table.specs.SoundFrames.{frameSound, eachSound, allZero, framesSound, SoundJob, SoundJobs}
 use Rattle.table.proofs.SoundLaws.{both-true}
@@ -140,12 +138,12 @@ apart e h = h (ap (λ (x : Record). x .tag) e)
 module _ (w : List ℕ) (used : ℕ) where
   -- words that stand for a frame are sound
   pub stands-sound : (r : Record) (f : Frame) → Stands w used r f → SoundJob used r
-  stands-sound r _ (stands-operand {a = a} {b = b} e h g) =
-      rw e (of-kind used (recordOf (Operand (slot a) (slot b))) (held-below h) (two refl (held-below g)))
-  stands-sound r _ (stands-argument {a = a} e h) =
-      rw e (of-kind used (recordOf (Argument (slot a))) (held-below h) (one (inl refl) refl))
-  stands-sound r _ (stands-function {a = a} e h) =
-      rw e (of-kind used (recordOf (Function (slot a))) (held-below h) (one (inr refl) refl))
+  stands-sound r _ (stands-operand e h g) =
+      rw e (of-kind used _ (held-below h) (two refl (held-below g)))
+  stands-sound r _ (stands-argument e h) =
+      rw e (of-kind used _ (held-below h) (one (inl refl) refl))
+  stands-sound r _ (stands-function e h) =
+      rw e (of-kind used _ (held-below h) (one (inr refl) refl))
 
   pub stand-sound : (j : List ℕ) (k : ℕ) (fs : List Frame) → StandFrom w used j k fs
       → (i : ℕ) → k ≤ i → i < k + length fs → SoundJob used (recordAt j i)
