@@ -157,7 +157,7 @@ module _ (w j : List ℕ) (s : State) (r : Ready w s) (waits : Waits j (s .used)
       (λ e.
       let l : s .used < room w = ltb-true (s .used) (room w) e in
       meet-keeps (putNode w (s .used) n) j (slot (s .used)) (s .used + 1)
-      (sound-next w (s .used) n (r .slots) l (omega (arith, r .f)) (h .0) (h .1)) (omega arith)
+      (sound-next w (s .used) n (r .slots) l (h .0) (h .1)) (omega arith)
       (s .waiting) (waits-more j (s .used) (s .used + 1) (s .waiting) (omega arith) waits))
       (λ _. (r, waits))
   carry-keeps (Give t) h = meet-keeps w j t (s .used) (r .slots) h (s .waiting) waits

@@ -15,6 +15,10 @@ table free = 7 ∷ 7 ∷ 0 ∷ 0 ∷ 1 ∷ 0 ∷ 2 ∷ 0 ∷ 3 ∷ 1 ∷ 4 ∷ 0
 abbrev pub other : List ℕ → List ℕ
 other free = 7 ∷ 7 ∷ 0 ∷ 0 ∷ 1 ∷ 0 ∷ 2 ∷ 0 ∷ 2 ∷ 3 ∷ 4 ∷ 1 ∷ free
 
+-- the slot of L, with nothing before it
+abbrev pub alone : List ℕ → List ℕ
+alone free = 0 ∷ 0 ∷ free
+
 -- what is asked, of which table and how many used slots, with 9 in each free word and 8 in each word of the frame table;
 -- what is left, and the answer
 pub record Case : Type 0 where
@@ -58,13 +62,13 @@ says number slot f x steps used waiting =
       waiting = waiting;
     }
 
--- a run of f on x behind the two words: fuel, free words, words of the frame table; then what they become, and the answer
-abbrev pub runsOf : (List ℕ → List ℕ) → ℕ → ℕ → ℕ → ℕ → ℕ → ℕ → List ℕ → List ℕ → Numbers → Case
-runsOf of used f x fuel free jobs words frames answer =
+-- a run of f on x at a base: fuel, free words, words of the frame table; then what they become, and the answer
+abbrev pub runsAt : ℕ → (List ℕ → List ℕ) → ℕ → ℕ → ℕ → ℕ → ℕ → ℕ → List ℕ → List ℕ → Numbers → Case
+runsAt base of used f x fuel free jobs words frames answer =
     record {
       of = of;
       used = used;
-      base = pos 2;
+      base = pos base;
       f = pos f;
       x = pos x;
       fuel = fuel;
@@ -74,6 +78,10 @@ runsOf of used f x fuel free jobs words frames answer =
       frames = frames;
       answer = answer;
     }
+
+-- after the two words
+abbrev pub runsOf : (List ℕ → List ℕ) → ℕ → ℕ → ℕ → ℕ → ℕ → ℕ → List ℕ → List ℕ → Numbers → Case
+runsOf = runsAt 2
 
 abbrev pub runs : ℕ → ℕ → ℕ → ℕ → ℕ → List ℕ → List ℕ → Numbers → Case
 runs = runsOf table 6
@@ -123,6 +131,8 @@ cases =
     -- a stop while "then the result to v" waits, where v is not slot 0
     ∷ runsOf other 5 4 3 1 4 7 (replicate 4 9) (2 ∷ 2 ∷ 0 ∷ replicate 4 0) (says 31 0 0 1 1 5 1)
     ∷ runsOf other 5 4 3 100 1 3 (9 ∷ []) (2 ∷ 2 ∷ 0 ∷ []) (says 32 0 0 1 1 5 1)
+    -- L to L at base 0, with nothing before our part
+    ∷ runsAt 0 alone 1 0 0 100 2 0 (1 ∷ 0 ∷ []) [] (says 0 1 0 0 1 2 0)
     ∷ []
 
 abbrev pub CasesHold : Type 0

@@ -14,10 +14,10 @@ use Rattle.calculus.specs.Tree.{Tree}
 use Rattle.calculus.specs.Machine.{Outcome}
 use Rattle.calculus.specs.Machine as machine
 use Rattle.table.specs.Slots.{room}
-use Rattle.table.specs.Sound.{sound, Sound}
+use Rattle.table.specs.Sound.{sound, SoundSlots}
 use Rattle.table.specs.Frames.{frameRoom}
 use Rattle.table.specs.Holds.{Holds}
-use Rattle.table.proofs.SoundLaws.{sound-breaks}
+use Rattle.table.proofs.SoundLaws.{each-sound, sound-breaks}
 use Rattle.table.proofs.HoldsLaws.{sound-holds}
 use Rattle.engine.specs.declared.RunAnswer.{RunAnswer}
 use Rattle.engine.specs.declared.RunAnswer.the-variants.{Refused}
@@ -34,7 +34,7 @@ pub record Begins (w : List ℕ) (base f x : ℤ) (used : ℕ) : Type 0 where
   pub at : ℕ
   pub base-is : base ≡ pos at
   pub inside : at ≤ length w
-  pub slots : Sound (drop at w) used
+  pub slots : SoundSlots (drop at w) used
   pub f-slot : ℕ
   pub f-is : f ≡ pos f-slot
   pub f-tree : Tree
@@ -61,7 +61,7 @@ module _ (w : List ℕ) (b used : ℕ) (out : OutOfTable w (pos b) used → ⊥)
         | no l ↦ omega (arith, l)
       ]
 
-  slots-sound : Sound (drop b w) used
+  slots-sound : SoundSlots (drop b w) used
   slots-sound =
       record {
         fits =
@@ -69,7 +69,7 @@ module _ (w : List ℕ) (b used : ℕ) (out : OutOfTable w (pos b) used → ⊥)
               | yes l ↦ absurd (out (above-room l))
               | no l ↦ omega (arith, l)
             ];
-        sound = go (sound (drop b w) used) refl;
+        each = each-sound (drop b w) used .0 (go (sound (drop b w) used) refl);
       }
     where
       go : (t : Bool) → sound (drop b w) used ≡ t → sound (drop b w) used ≡ true
@@ -83,8 +83,8 @@ begins w (pos b) f x used o m d =
     let slots = slots-sound w b used o d in
     let (i, p, li) = placed-at f used (λ h. m (inl h)) in
     let (k, q, lk) = placed-at x used (λ h. m (inr h)) in
-    let (ft, hf) = sound-holds (drop b w) used (slots .sound) i li in
-    let (xt, hx) = sound-holds (drop b w) used (slots .sound) k lk in
+    let (ft, hf) = sound-holds (drop b w) used slots i li in
+    let (xt, hx) = sound-holds (drop b w) used slots k lk in
     record {
       at = b;
       base-is = refl;

@@ -15,10 +15,10 @@ use Rattle.calculus.specs.Tree.{Tree}
 use Rattle.table.specs.declared.slots.Slot.{Slot}
 use Rattle.table.specs.declared.slots.Node.the-variants.{Leaf}
 use Rattle.table.specs.Slots.{room, Below}
-use Rattle.table.specs.Sound.{Sound}
-use Rattle.table.specs.Holds.{Has, Holds, holds-leaf, holds-stem, holds-fork, HoldsFrom, Untouched}
-use Rattle.table.proofs.SlotLaws.{room-long}
-use Rattle.table.proofs.SoundLaws.{sound-each}
+use Rattle.table.specs.Sound.{SoundSlots}
+use Rattle.table.specs.Holds.{Holds, holds-leaf, holds-stem, holds-fork, HoldsFrom, Untouched}
+use Rattle.table.proofs.SlotLaws.{Has, room-long}
+use Rattle.table.proofs.SoundLaws.{node-sound}
 use Rattle.table.proofs.HoldsLaws.{zero-leaf}
 use Rattle.nodes.specs.Records.{Node as Record, children, hashes}
 use Rattle.nodes.specs.Links.{linkTo, linkOf, placedOf}
@@ -176,20 +176,16 @@ module _ (rs : List Record) {s : List ℕ} (are : IsNodes rs s) (apart : Distinc
           first-childless j m z (a ∷ []) g one = absurd (omega (arith, child-below j m {h = a} (rw g here)))
           first-childless j m z (a ∷ b ∷ []) g two = absurd (omega (arith, child-below j m {h = a} (rw g here)))
 
-      slots-sound : Sound v (length rs)
+      slots-sound : SoundSlots v (length rs)
       unfolding slotOf
       slots-sound =
           record {
             fits = rw (room-long w v (written-long rs 0 rs w)) fits;
-            sound =
-                sound-each v (length rs) (λ k l.
+            each = λ k l.
                 let (i, m, e) = slot-onto rs few whole k l in
-                let z : slotOf rs i .0 ≡ k = omega arith in (
-                  nodeOf rs (childrenAt rs i),
-                  rw z at (each-has i m),
-                  rw z at (node-below i m),
-                  λ f. sym z ∙ leaf-zero i m (leaf-childless (childrenAt rs i) (kids-view _) f),
-                ));
+                let z : slotOf rs i .0 ≡ k = omega arith in
+                node-sound v k (nodeOf rs (childrenAt rs i)) (rw z at (each-has i m)) (rw z at (node-below i m))
+                (λ f. sym z ∙ leaf-zero i m (leaf-childless (childrenAt rs i) (kids-view _) f));
           }
 
       pub table-holds : (store : List Tree) → TreesOf rs (order rs are apart closed whole) store → length store ≡ length rs →
@@ -202,5 +198,5 @@ module _ (rs : List Record) {s : List ℕ} (are : IsNodes rs s) (apart : Distinc
             each =
                 trees-from (order rs are apart closed whole) store 0 trees
                 (λ j l. order-slot j (omega (arith, order-long rs are apart closed whole)) ∙ sym (zero-add j));
-            zero = zero-leaf v (length rs) (slots-sound .sound) some;
+            zero = zero-leaf v (length rs) slots-sound some;
           }

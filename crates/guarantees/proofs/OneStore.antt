@@ -5,16 +5,16 @@ use mathlib.Core.List.{List, [], _∷_}
 use native.Mathlib.Omega.{arith}
 use lib.ListN.{length}
 use Rattle.calculus.specs.Tree.{Tree}
-use Rattle.table.specs.Sound.{Sound}
+use Rattle.table.specs.Sound.{SoundSlots}
 use Rattle.table.specs.Holds.{HoldsFrom}
 use Rattle.table.proofs.HoldsLaws.{one-tree, sound-holds, zero-leaf}
 use Rattle.guarantees.specs.Session.{Holding, OneStore}
 
 module _ (w : List ℕ) (n : ℕ) where
-  trees-from : Sound w n → (m k : ℕ) → k + m ≡ n → (ts : List Tree) × (length ts ≡ m) × HoldsFrom w n k ts
+  trees-from : SoundSlots w n → (m k : ℕ) → k + m ≡ n → (ts : List Tree) × (length ts ≡ m) × HoldsFrom w n k ts
   trees-from good zero k e = ([], refl, tt)
   trees-from good (suc m) k e =
-      let t = sound-holds w n (good .sound) k (omega arith) in
+      let t = sound-holds w n good k (omega arith) in
       let r = trees-from good m (suc k) (omega arith) in
       (t .0 ∷ r .0, ap suc (r .1), (t .1, r .2))
 
@@ -29,6 +29,6 @@ pub one-store : OneStore
 one-store w used good some =
     let r = trees-from w used good used 0 (omega arith) in
     let holding : Holding w used (r .0)
-    = record { slots = good; some = some; long = r .1; each = r .2; zero = zero-leaf w used (good .sound) some }
+    = record { slots = good; some = some; long = r .1; each = r .2; zero = zero-leaf w used good some }
     in
     (r .0, holding, λ other h. same-trees w used 0 other (r .0) (h .long ∙ sym (r .1)) (h .each) (r .2))

@@ -10,7 +10,7 @@ use lib.Seq.{ext-getD}
 use Rattle.wire.specs.Relations.{Distinct}
 use Rattle.wire.proofs.Index.{distinct-index}
 use Rattle.calculus.specs.Tree.{Tree, leaf}
-use Rattle.table.specs.Slots.{width, firstAt, secondAt, SameSlots}
+use Rattle.table.specs.Slots.{SameSlots}
 use Rattle.table.specs.Holds.{Holds, holds-leaf, holds-stem, holds-fork, Untouched}
 use Rattle.table.proofs.SlotLaws.{same-below}
 use Rattle.table.proofs.HoldsLaws.{held-below, one-tree, from-at}
@@ -31,7 +31,7 @@ module _ (n : ℕ) (store : List Tree) (apart : Distinct store) where
         (held-at good h ∙ sym (held-at fine g))
 
     same-words : {i : ℕ} {t : Tree} → Holds w n i t → Holds v n i t →
-        (firstAt w i ≡ firstAt v i) × (secondAt w i ≡ secondAt v i)
+        (getD w (2 * i) 0 ≡ getD v (2 * i) 0) × (getD w (2 * i + 1) 0 ≡ getD v (2 * i + 1) 0)
     same-words (holds-leaf l e) (holds-leaf m f) = (e .first ∙ sym (f .first), e .second ∙ sym (f .second))
     same-words (holds-stem l e h) (holds-stem m f g) =
         (e .first ∙ ap (λ (x : ℕ). x + 1) (one-slot h g) ∙ sym (f .first), e .second ∙ sym (f .second))
@@ -49,7 +49,7 @@ module _ (n : ℕ) (store : List Tree) (apart : Distinct store) where
     pub one-table : (u : List ℕ) → Untouched u 0 w n → Untouched u 0 v n → w ≡ v
     one-table u a b =
         ext-getD 0 w v (a .long ∙ sym (b .long)) (λ k l.
-        elim (decLt k (width * n)) [
+        elim (decLt k (2 * n)) [
           | yes h ↦ same-below w v same-slots k h
           | no h ↦ a .over k (omega (arith, h)) ∙ sym (b .over k (omega (arith, h)))
         ])

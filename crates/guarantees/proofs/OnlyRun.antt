@@ -10,7 +10,6 @@ use lib.IntN.{ℤ}
 use Rattle.calculus.specs.Tree.{Tree}
 use Rattle.calculus.specs.Rules.{Frame}
 use Rattle.calculus.specs.Machine.{Outcome}
-use Rattle.table.specs.Slots.{width}
 use Rattle.table.specs.Holds.{StandFrom}
 use Rattle.table.proofs.HoldsLaws.{from-kept, from-append, untouched-refl}
 use Rattle.table.proofs.SoundFrames.{standing-sound}
@@ -45,7 +44,7 @@ module _ {w w′ j v k v′ k′ : List ℕ} {n q : ℕ} (s : SameSince n q w w�
         outside = record {
           long = b .long ∙ o .long ∙ sym (a .long);
           under = λ i h.
-              let g : i < width * q = omega (arith, s .count) in
+              let g : i < 2 * q = omega (arith, s .count) in
               b .under i g ∙ o .under i h ∙ sym (a .under i g);
           over = λ i h. b .over i h ∙ o .over i (omega arith) ∙ sym (a .over i h);
         };
@@ -63,7 +62,7 @@ module _ {w w′ j v k v′ k′ : List ℕ} {n q : ℕ} (s : SameSince n q w w�
       let m = q + length made in
       record {
         slots = since-grows l l′;
-        long = l .long ∙ sym (l′ .long);
+        long = omega (arith, l .long, l′ .long);
         jobs = standing-sound v m k frames (l .places) h (l .above);
         jobs′ = standing-sound v′ m k′ frames (l′ .places) h′ (l′ .above);
         stand = h;

@@ -14,6 +14,7 @@ use Rattle.table.specs.Sound.{Sound}
 use Rattle.table.specs.Frames.{frameRoom, cleared}
 use Rattle.table.specs.Holds.{Holds}
 use Rattle.table.proofs.SlotLaws.{place-in}
+use Rattle.table.proofs.SoundLaws.{slots-sound}
 use Rattle.table.proofs.FrameLaws.{frame-room-long, length-cleared, zero-cleared}
 use Rattle.table.proofs.HoldsLaws.{held-below}
 use Rattle.engine.specs.declared.step.State.{State}
@@ -66,4 +67,4 @@ pub run-simulates : RunSimulates
 run-simulates before w j used f x fuel ft xt good hf hx =
     rw (run-behind before w j (pos f) (pos x) used fuel)
     (parts before w j used (runTail w (pos f) (pos x) used fuel j) _
-    (tail-simulates w j used f x fuel ft xt good hf hx))
+    (tail-simulates w j used f x fuel ft xt (slots-sound w used .1 good) hf hx))

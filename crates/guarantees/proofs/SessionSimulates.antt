@@ -1,7 +1,7 @@
 -- One request goes alike and leaves used slots that hold the grown store; a list of them by induction.
 use Prim.Native.Nat.{ℕ, _+_, _-_, _≤_, _<_}
 use mathlib.Core.Path.{_≡_, refl, sym, ap, _∙_}
-use mathlib.Core.Bool.{true, _||_}
+use mathlib.Core.Bool.{Bool, true, _||_, cond}
 use mathlib.Core.Logic.{_⊎_, inl, inr}
 use mathlib.Core.List.{List, [], _∷_, _++_}
 use native.Mathlib.Omega.{arith}
@@ -79,7 +79,8 @@ module _ (w : List ℕ) (n : ℕ) (store : List Tree) (good : Holding w n store)
         | yes l ↦ within i l
         | no l ↦
             let g : length store ≤ i = omega (arith, l) in
-            outside (not-used {i = i} (omega (arith, good .long))) (simp (le-ltb i (length store) g))
+            outside (not-used {i = i} (omega (arith, good .long)))
+            (ap (λ (t : Bool). cond t (found (getD store i leaf)) nowhere) (le-ltb i (length store) g))
       ]
   seen (negsuc i) = outside negative refl
 
@@ -121,9 +122,12 @@ module _ (w : List ℕ) (n : ℕ) (store : List Tree) (good : Holding w n store)
     goes-answered v k a o h =
         let l = leaves h .1 in
         let d = drop-append-seam (c .before) v in
+        let m : tableAfter b table (ran (c .before ++ v) k a) .used ≡ n + length (o .made)
+        = rw (agrees-starts h) (used-grows h)
+        in
         record {
           alike = alike-answered {w = v} {j = k} {a = a} {o = o} h;
-          holding = rw (d, agrees-starts h, used-grows h) (grows good l);
+          holding = rw (d, m) (grows good l);
           same-room = ap room d ∙ room-long w v (l .untouched .long);
         }
 
@@ -159,7 +163,8 @@ module _ (call : RunCall) (refuses : RefusesExactly call) (simulates : Simulates
       → AllAlike call b most (record { words = w; used = n }) store cs
   all-alike [] w n most store good e bring = (good, sym e)
   all-alike (to-run c ∷ cs) w n most store good e bring =
-      let g = rw (bring .0) at (goes w n store good call refuses simulates c) in
+      let long : length (c .before) ≡ b = bring .0 in
+      let g = rw long at (goes w n store good call refuses simulates c) in
       let t : Table = record { words = w; used = n } in
       let t′ = tableAfter b t (answer call b t (to-run c)) in
       rw e (

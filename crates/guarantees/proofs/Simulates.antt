@@ -24,7 +24,7 @@ use Rattle.table.specs.Frames.{frameRoom, Record, recordOf, recordAt, putFrame,
 use Rattle.table.specs.Holds.{Holds, HoldsFrom, Kept, Untouched, StandFrom, ZeroFrom}
 use Rattle.table.specs.Holds.{Stands, stands-operand, stands-argument, stands-function}
 use Rattle.table.proofs.SlotLaws.{room-long}
-use Rattle.table.proofs.SoundLaws.{sound-next}
+use Rattle.table.proofs.SoundLaws.{slots-sound, sound-next}
 use Rattle.table.proofs.FrameLaws.{frame-room-long, frame-is, length-put-frame, record-here, record-other, zero-over}
 use Rattle.table.proofs.FrameLaws.{length-drop, record-dropped, zero-drop, stands-kept}
 use Rattle.table.proofs.HoldsLaws.{held-below, leaf-view, stem-view, fork-view, put-keeps, put-stem, put-fork}
@@ -120,15 +120,16 @@ grown-one w n node t h =
 leaves-here : {w v : List ℕ} {n m : ℕ} {made : List Tree} (j : List ℕ) {waiting : ℕ} → Grown w n v m made → Sound v m →
     0 < m → waiting ≤ frameRoom j → ZeroFrom j waiting → Leaves w n j v m j made waiting
 leaves-here {v = v} {m = m} j grown good some places above =
+    let slots = slots-sound v m .0 good in
     record {
       new = grown .new;
       old = grown .old;
       untouched = grown .untouched;
-      slots = good;
-      zero = zero-leaf v m (good .sound) some;
-      long = refl;
+      slots = slots;
+      zero = zero-leaf v m slots some;
+      long = omega arith;
       places = places;
-      above = above;
+      above = λ i h. above i (omega arith);
     }
 
 -- ---- a rule
@@ -254,7 +255,7 @@ module _ (w j : List ℕ) (s : State) (p : machine.State) (sim : Sim w j s p) wh
         | yes g ↦
             let v = putNode w n node in
             let grown = grown-one w n node t (put g) in
-            let good = sound-next w n node (sim .slots) g (omega (arith, held-below (sim .f))) below inner in
+            let good = sound-next w n node (sim .slots) g below inner in
             rw (lt-ltb n (room w) g, lt-ltb 0 (room w - n) (omega arith))
             (meets w j s v (n + 1) (t ∷ []) grown good n t (put g) (s .waiting) (p .frames)
             (frames-kept w n j (grown .old) (s .waiting) (p .frames) (sim .frames)) (sim .fits) (sim .above))
@@ -340,7 +341,7 @@ module _ (w j v k : List ℕ) (n m : ℕ) (made : List Tree) (grown : Grown w n 
         untouched = untouched-trans (omega (arith, grown .count)) h (grown .untouched) (l .untouched);
         slots = l .slots;
         zero = l .zero;
-        long = l .long ∙ long;
+        long = omega (arith, l .long, long);
         places = l .places;
         above = l .above;
       }

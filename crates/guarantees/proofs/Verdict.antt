@@ -1,7 +1,7 @@
 -- How a call is judged: each refusal with its reason, and none of the reasons where a run starts.
 use Prim.Native.Nat.{ℕ, zero, suc, _≤_, _<_}
-use mathlib.Core.Path.{_≡_, refl, sym, _∙_}
-use mathlib.Core.Bool.{true, false, false≢true, or-true}
+use mathlib.Core.Path.{_≡_, refl}
+use mathlib.Core.Bool.{true, or-true}
 use mathlib.Core.List.{List}
 use mathlib.Core.Logic.{_⊎_, inl, inr, ⊎-elim}
 use native.Mathlib.Omega.{arith}
@@ -18,8 +18,7 @@ use Rattle.table.specs.Sound.{sound}
 use Rattle.table.specs.Frames.{cleared}
 use Rattle.table.proofs.Tests.{by-test}
 use Rattle.table.proofs.SlotLaws.{place-in, place-at}
-use Rattle.table.proofs.SoundTest.{sound-broken}
-use Rattle.table.proofs.SoundLaws.{sound-breaks}
+use Rattle.table.proofs.SoundLaws.{each-sound, sound-breaks}
 use Rattle.engine.specs.declared.step.State.{State}
 use Rattle.engine.specs.declared.step.Status.{Status}
 use Rattle.engine.specs.declared.step.Status.the-variants.{Going, Done as IsDone, NoSlot, NoPlace}
@@ -131,7 +130,7 @@ module _ (w j : List ℕ) (b : ℕ) (f x : ℤ) (used fuel : ℕ) where
         let well : Misplaced used f ⊎ Misplaced used x → ⊥ = ⊎-elim (placed-well f used s e) (placed-well x used t g) in
         by-test Comes (sound (drop b w) used)
         (λ h. started not-out well
-        (λ d. false≢true (sym (sound-broken (drop b w) (d .0) used (d .1) (d .2)) ∙ h))
+        (λ d. d .2 (each-sound (drop b w) used .0 h (d .0) (d .1)))
         (start-ended (take b w) (drop b w) j fuel (record { f = s; x = t; used = used; waiting = 0 })))
         (λ h. refused 24 (damaged not-out well (sound-breaks (drop b w) used h)))
 

@@ -5,9 +5,8 @@ use mathlib.Core.List.{List, [], _∷_}
 use native.Mathlib.Omega.{arith}
 use lib.ListN.{length, getD}
 use Rattle.table.specs.declared.slots.Node.{Node}
-use Rattle.table.specs.Slots.{width, room, putNode}
-use Rattle.table.specs.Holds.{Has}
-use Rattle.table.proofs.SlotLaws.{room-long, length-put, put-outside, put-here, put-other}
+use Rattle.table.specs.Slots.{room, putNode}
+use Rattle.table.proofs.SlotLaws.{Has, room-long, length-put, put-outside, put-here, put-other}
 use Rattle.nodes.specs.Records.{Node as Record, children}
 use Rattle.nodes.proofs.Children.{childrenAt}
 use Rattle.loader.specs.Written.{slotOf, nodeOf, written}
@@ -33,7 +32,7 @@ module _ (all : List Record) where
 
   -- a word behind all their slots keeps its contents
   pub written-over : (m i : ℕ) (rs : List Record) (w : List ℕ) (k : ℕ) → ((j : ℕ) → j < length rs → slotOf all (i + j) .0 < m) →
-      width * m ≤ k → getD (written all i rs w) k 0 ≡ getD w k 0
+      2 * m ≤ k → getD (written all i rs w) k 0 ≡ getD w k 0
   unfolding written
   written-over m i [] w k low h = refl
   written-over m i (r ∷ rs) w k low h =

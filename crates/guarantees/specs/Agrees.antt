@@ -8,7 +8,7 @@ use Rattle.calculus.specs.Tree.{Tree, leaf}
 use Rattle.calculus.specs.Rules.{Frame}
 use Rattle.calculus.specs.Machine.{Stop, stopNumber, ended, stopped, Outcome}
 use Rattle.table.specs.Frames.{frameRoom}
-use Rattle.table.specs.Sound.{Sound}
+use Rattle.table.specs.Sound.{SoundSlots}
 use Rattle.table.specs.Holds.{Holds, HoldsFrom, Kept, Untouched, StandFrom, ZeroFrom}
 use Rattle.engine.specs.Answer.{Numbers}
 
@@ -22,7 +22,7 @@ pub record Leaves (w : List ℕ) (n : ℕ) (j v : List ℕ) (m : ℕ) (k : List 
   -- all other words stay
   pub untouched : Untouched w n v m
   -- the used slots are sound, and slot zero is the leaf
-  pub slots : Sound v m
+  pub slots : SoundSlots v m
   pub zero : Holds v m 0 leaf
   -- no more frames wait than there is room for, and above them all words are 0
   pub long : length k ≡ length j

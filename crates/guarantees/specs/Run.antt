@@ -11,7 +11,7 @@ use Rattle.calculus.specs.Tree.{Tree}
 use Rattle.calculus.specs.Machine as machine
 use Rattle.table.specs.Slots.{room, SameSlots}
 use Rattle.table.specs.Frames.{frameRoom}
-use Rattle.table.specs.Sound.{soundAt, Sound}
+use Rattle.table.specs.Sound.{SoundSlot, SoundSlots}
 use Rattle.table.specs.Holds.{Holds}
 use Rattle.table.specs.SoundFrames.{SoundJobs}
 use Rattle.engine.specs.declared.RunAnswer.{RunAnswer}
@@ -29,7 +29,7 @@ RunCall = List ℕ → ℤ → ℤ → ℤ → ℕ → ℕ → List ℕ → Ran
 abbrev pub Simulates : RunCall → Type 0
 Simulates call =
     (before w j : List ℕ) (used f x fuel : ℕ) (ft xt : Tree)
-    → Sound w used → Holds w used f ft → Holds w used x xt
+    → SoundSlots w used → Holds w used f ft → Holds w used x xt
     → (v : List ℕ) × (k : List ℕ) × (a : RunAnswer)
     × (call (before ++ w) (pos (length before)) (pos f) (pos x) used fuel j ≡ ran (before ++ v) k a)
     × Agrees w used j v k (numbers a) (machine.run fuel (room w - used) (frameRoom j) (machine.start ft xt))
@@ -70,8 +70,7 @@ pub data Misplaced (used : ℕ) : ℤ → Type 0 where
 
 -- 24: some used slot is not sound
 abbrev pub Damaged : List ℕ → ℤ → ℕ → Type 0
-Damaged w (pos b) used =
-    (i : ℕ) × (i < used) × (soundAt (drop b w) i ≡ false)
+Damaged w (pos b) used = (i : ℕ) × (i < used) × (SoundSlot (drop b w) i → ⊥)
 Damaged w (negsuc b) used = ⊥
 
 -- A run is refused exactly when one of these holds, with the lowest number that applies.

@@ -11,7 +11,7 @@ use Rattle.calculus.specs.Machine.{Outcome}
 use Rattle.calculus.specs.Machine as machine
 use Rattle.table.specs.Slots.{room}
 use Rattle.table.specs.Frames.{frameRoom}
-use Rattle.table.specs.Sound.{Sound}
+use Rattle.table.specs.Sound.{SoundSlots}
 use Rattle.table.specs.Holds.{Holds, HoldsFrom}
 use Rattle.engine.specs.declared.RunAnswer.{RunAnswer}
 use Rattle.engine.specs.Run.{Ran, ran, run}
@@ -103,7 +103,7 @@ pub data Alike (t : Table) (c : Request) : Ran → Reply → Type 0 where
 
 -- used slot i holds the store's tree i, slot zero the leaf; the used slots are sound
 pub record Holding (w : List ℕ) (used : ℕ) (store : List Tree) : Type 0 where
-  pub slots : Sound w used
+  pub slots : SoundSlots w used
   pub some : 0 < used
   pub long : length store ≡ used
   pub each : HoldsFrom w used 0 store
@@ -151,5 +151,5 @@ SessionBlind =
 -- Sound used slots hold just one store.
 abbrev pub OneStore : Type 0
 OneStore =
-    (w : List ℕ) (used : ℕ) → Sound w used → 0 < used
+    (w : List ℕ) (used : ℕ) → SoundSlots w used → 0 < used
     → (store : List Tree) × Holding w used store × ((other : List Tree) → Holding w used other → other ≡ store)

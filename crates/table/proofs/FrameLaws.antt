@@ -2,15 +2,16 @@
 use Prim.Native.Nat.{ℕ, zero, suc, _+_, _*_, _/_, _≤_, _<_}
 use mathlib.Core.Path.{_≡_, refl, ap, _∙_}
 use mathlib.Core.List.{List, [], _∷_}
+use mathlib.Core.Logic.{inl, inr}
 use native.Mathlib.Omega.{arith}
-use native.Mathlib.Decide.{ℕ-discrete}
+use native.Mathlib.Decide.{decLt, ℕ-discrete}
 use lib.ListN.{length, getD, replicate, length-set, length-replicate}
 use lib.Seq.{getD-set-same, getD-set-other}
 use Rattle.calculus.specs.Rules.{Frame as Job}
 use Rattle.table.specs.declared.frames.Frame.{Frame}
 use Rattle.table.specs.declared.frames.Frame.the-variants.{Operand, Argument, Function}
 use Rattle.table.specs.Limits.{maxFrames, atMost}
-use Rattle.table.specs.Frames.{frameWidth, frameRoom, Record, recordOf, none, recordAt, putRecord}
+use Rattle.table.specs.Frames.{frameWidth, frameRoom, JobRoomIs, Record, recordOf, none, recordAt, JobWords, putRecord}
 use Rattle.table.specs.Frames.{frameAt, putFrame, dropFrame, cleared}
 use Rattle.table.specs.Holds.{Kept, Stands, stands-operand, stands-argument, stands-function, StandFrom, ZeroFrom}
 
@@ -23,6 +24,23 @@ frame-room-long j k e = ap (λ (l : ℕ). atMost maxFrames (l / frameWidth)) e
 pub frame-room-most : (j : List ℕ) → frameRoom j ≤ maxFrames
 unfolding frameRoom
 frame-room-most j = omega arith
+
+-- Three words to a job, rounded down, and at most the limit.
+pub job-room-is : JobRoomIs
+unfolding frameRoom
+job-room-is j = (
+  omega arith,
+  omega arith,
+  elim (decLt (length j) (3 * frameRoom j + 3)) [
+    | yes h ↦ inr h
+    | no h ↦ inl (omega (arith, h))
+  ],
+)
+
+-- Place k is words 3k, 3k + 1 and 3k + 2.
+pub job-words : JobWords
+unfolding recordAt
+job-words j k = refl
 
 -- all words of a place in the room are words of the table
 pub in-frame-room : (j : List ℕ) (k : ℕ) → k < frameRoom j → frameWidth * k + 2 < length j

@@ -1,7 +1,6 @@
 -- Laws of the trees that slots hold: each used slot of a sound table holds one, and the next slot's node changes none.
 use Prim.Native.Nat.{ℕ, zero, suc, _+_, _≤_, _<_}
 use mathlib.Core.Path.{_≡_, refl, ap, _∙_, subst}
-use mathlib.Core.Bool.{true}
 use mathlib.Core.List.{List, [], _∷_, _++_}
 use native.Mathlib.Omega.{arith}
 use lib.ListN.{length, getD}
@@ -10,10 +9,10 @@ use Rattle.table.specs.declared.slots.Slot.{Slot}
 use Rattle.table.specs.declared.slots.Node.{Node}
 use Rattle.table.specs.declared.slots.Node.the-variants.{Leaf, Stem, Fork}
 use Rattle.table.specs.Slots.{slot, room, nodeAt, putNode, Below}
-use Rattle.table.specs.Sound.{sound}
-use Rattle.table.specs.Holds.{Has, Holds, holds-leaf, holds-stem, holds-fork, HoldsFrom, Kept, Untouched}
-use Rattle.table.proofs.SlotLaws.{length-put, put-outside, put-here, put-other, has-node}
-use Rattle.table.proofs.SoundLaws.{slot-bounds, slot-has, sound-zero}
+use Rattle.table.specs.Sound.{SoundSlots, OnlyZeroIsLeaf}
+use Rattle.table.specs.Holds.{Holds, holds-leaf, holds-stem, holds-fork, HoldsFrom, Kept, Untouched}
+use Rattle.table.proofs.SlotLaws.{Has, has-node, length-put, put-outside, put-here, put-other}
+use Rattle.table.proofs.SoundLaws.{slot-below, slot-has, sound-zero}
 
 -- a slot that holds a tree is a used one, and holds the node of that tree
 module _ {w : List ℕ} {n i : ℕ} where
@@ -23,14 +22,14 @@ module _ {w : List ℕ} {n i : ℕ} where
   held-below (holds-fork h e a b) = h
 
   pub leaf-view : Holds w n i leaf → nodeAt w i ≡ Leaf
-  leaf-view (holds-leaf h e) = has-node e
+  leaf-view (holds-leaf h e) = has-node Leaf e
 
   pub stem-view : {t : Tree} → Holds w n i (stem t) → (a : ℕ) × (nodeAt w i ≡ Stem (slot a)) × Holds w n a t
-  stem-view (holds-stem {a = a} h e c) = (a, has-node e, c)
+  stem-view (holds-stem {a = a} h e c) = (a, has-node (Stem (slot a)) e, c)
 
   pub fork-view : {t u : Tree} → Holds w n i (fork t u) →
       (a : ℕ) × (b : ℕ) × (nodeAt w i ≡ Fork (slot a) (slot b)) × Holds w n a t × Holds w n b u
-  fork-view (holds-fork {a = a} {b = b} h e c d) = (a, b, has-node e, c, d)
+  fork-view (holds-fork {a = a} {b = b} h e c d) = (a, b, has-node (Fork (slot a) (slot b)) e, c, d)
 
 -- a slot holds one tree at most
 pub one-tree : (w : List ℕ) (n i : ℕ) (t u : Tree) → Holds w n i t → Holds w n i u → t ≡ u
@@ -98,7 +97,7 @@ module _ (w : List ℕ) (n : ℕ) where
   pub untouched-refl : Untouched w n w n
   untouched-refl = record { long = refl; under = λ _ _. refl; over = λ _ _. refl }
 
-module _ (w : List ℕ) (n : ℕ) (good : sound w n ≡ true) where
+module _ (w : List ℕ) (n : ℕ) (good : SoundSlots w n) where
   -- slot 0 holds the leaf
   pub zero-leaf : 0 < n → Holds w n 0 leaf
   zero-leaf h = holds-leaf {i = 0} h (sound-zero w n good h)
@@ -120,11 +119,16 @@ module _ (w : List ℕ) (n : ℕ) (good : sound w n ≡ true) where
   trees : (m : ℕ) → Trees m
   trees zero i l h = absurd (omega arith)
   trees (suc m) i l h =
-      step i (nodeAt w i) h (λ k g. trees m k (omega arith)) (slot-has w n good i h) (slot-bounds w n good i h)
+      step i (nodeAt w i) h (λ k g. trees m k (omega arith)) (slot-has w n good i h) (slot-below w i (good .each i h))
 
   -- each used slot holds a tree
   pub sound-holds : (i : ℕ) → i < n → (t : Tree) × Holds w n i t
   sound-holds i h = trees (suc i) i (omega arith) h
+
+-- In a sound table only slot zero holds the leaf.
+pub only-zero-leaf : OnlyZeroIsLeaf
+only-zero-leaf w n zero good (holds-leaf h e) = refl
+only-zero-leaf w n (suc i) good (holds-leaf h e) = absurd (omega (arith, good .each (suc i) h .0, e .first))
 
 -- trees that slots hold one after the other
 module _ (w : List ℕ) (n : ℕ) where

@@ -3,6 +3,7 @@ use Prim.Native.Nat.{ℕ, _+_, _*_, _/_, _%_, _≤_, _<_}
 use mathlib.Core.Path.{_≡_, refl, sym, ap, _∙_}
 use mathlib.Core.Bool.{Bool, true, false, cond}
 use mathlib.Core.List.{List}
+use mathlib.Core.Logic.{inl, inr}
 use native.Mathlib.Omega.{arith}
 use native.Mathlib.Numerals.{add-one}
 use native.Mathlib.Decide.{decLt, ℕ-discrete}
@@ -16,9 +17,9 @@ use Rattle.table.specs.declared.slots.Place.the-variants.{At, Nowhere}
 use Rattle.table.specs.declared.slots.Node.{Node}
 use Rattle.table.specs.declared.slots.Node.the-variants.{Leaf, Stem, Fork}
 use Rattle.table.specs.Limits.{maxSlots, atMost}
-use Rattle.table.specs.Slots.{width, slot, room, place, firstAt, secondAt}
+use Rattle.table.specs.Slots.{width, slot, room, RoomIs, place, firstWord, secondWord, firstAt, secondAt}
 use Rattle.table.specs.Slots.{putWords, nodeAt, putNode, SameSlots}
-use Rattle.table.specs.Holds.{Has}
+use Rattle.table.specs.Holds.{Words}
 
 -- a table's room depends on its length alone
 pub room-long : (w v : List ℕ) → length v ≡ length w → room v ≡ room w
@@ -30,17 +31,33 @@ pub room-most : (w : List ℕ) → room w ≤ maxSlots
 unfolding room
 room-most w = omega arith
 
+-- Room is the smaller of the limit and half the words, rounded down.
+pub room-is : RoomIs
+unfolding room
+room-is w = (
+  omega arith,
+  omega arith,
+  elim (decLt (length w) (2 * room w + 2)) [
+    | yes h ↦ inr h
+    | no h ↦ inl (omega (arith, h))
+  ],
+)
+
 -- both words of a slot in the room are words of the table
 pub in-room : (w : List ℕ) (i : ℕ) → i < room w → width * i + 1 < length w
 unfolding room
 in-room w i h = omega arith
 
--- a slot that has the words of a node holds that node
-pub has-node : {w : List ℕ} {i : ℕ} {n : Node} → Has w i n → nodeAt w i ≡ n
-unfolding nodeAt
-has-node {n = Leaf} h = rw (h .first)
-has-node {n = Stem a} h = rw (h .first, h .second) (simp add-one)
-has-node {n = Fork a b} h = rw (h .first, h .second) (simp add-one)
+-- slot i has the words of this node
+abbrev pub Has : List ℕ → ℕ → Node → Type 0
+Has w i n = Words w i (firstWord n) (secondWord n)
+
+-- then it holds that node
+pub has-node : {w : List ℕ} {i : ℕ} (n : Node) → Has w i n → nodeAt w i ≡ n
+unfolding nodeAt firstAt secondAt
+has-node Leaf h = rw (h .first)
+has-node (Stem a) h = rw (h .first, h .second) (simp add-one)
+has-node (Fork a b) h = rw (h .first, h .second) (simp add-one)
 
 -- a node is written in slot i
 module _ (w : List ℕ) (i : ℕ) (n : Node) where
@@ -59,33 +76,37 @@ module _ (w : List ℕ) (i : ℕ) (n : Node) where
 
   -- the slot has the node's words, and holds it
   pub put-here : i < room w → Has (putNode w i n) i n
-  unfolding putNode putWords firstAt secondAt
+  unfolding putNode putWords
   put-here h =
       let l = in-room w i h in
       let m : width * i < length w = omega arith in
       let one : width * i ≡ width * i + 1 → ⊥ = omega arith in
       record {
+        inside = omega (arith, length-put);
         first = search (getD-set-other, getD-set-same);
         second = search (getD-set-same, length-set);
       }
 
   pub node-here : i < room w → nodeAt (putNode w i n) i ≡ n
-  node-here h = has-node (put-here h)
+  node-here h = has-node n (put-here h)
 
   -- another slot has the words that it had, and holds what it held
-  pub first-other : (k : ℕ) → (k ≡ i → ⊥) → firstAt (putNode w i n) k ≡ firstAt w k
-  unfolding firstAt
+  pub first-other : (k : ℕ) → (k ≡ i → ⊥) → getD (putNode w i n) (width * k) 0 ≡ getD w (width * k) 0
   first-other k h = put-outside (width * k) (omega (arith, h)) (omega arith)
 
-  pub second-other : (k : ℕ) → (k ≡ i → ⊥) → secondAt (putNode w i n) k ≡ secondAt w k
-  unfolding secondAt
+  pub second-other : (k : ℕ) → (k ≡ i → ⊥) → getD (putNode w i n) (width * k + 1) 0 ≡ getD w (width * k + 1) 0
   second-other k h = put-outside (width * k + 1) (omega arith) (omega (arith, h))
 
   pub put-other : (k : ℕ) (m : Node) → (k ≡ i → ⊥) → Has w k m → Has (putNode w i n) k m
-  put-other k m h g = record { first = first-other k h ∙ g .first; second = second-other k h ∙ g .second }
+  put-other k m h g =
+      record {
+        inside = omega (arith, g .inside, length-put);
+        first = first-other k h ∙ g .first;
+        second = second-other k h ∙ g .second;
+      }
 
   pub node-other : (k : ℕ) → (k ≡ i → ⊥) → nodeAt (putNode w i n) k ≡ nodeAt w k
-  unfolding nodeAt
+  unfolding nodeAt firstAt secondAt
   node-other k h = rw (first-other k h, second-other k h)
 
 -- a number below the used slots names its slot
@@ -125,12 +146,11 @@ place-below z used s e = place-at z used s e .1
 module _ {n : ℕ} (w v : List ℕ) (same : SameSlots n w v) where
   -- hold the same nodes there
   pub same-node : (i : ℕ) → i < n → nodeAt w i ≡ nodeAt v i
-  unfolding nodeAt
+  unfolding nodeAt firstAt secondAt
   same-node i h = rw (same i h .0, same i h .1)
 
   -- are the same up to there, word by word
   pub same-below : (k : ℕ) → k < width * n → getD w k 0 ≡ getD v k 0
-  unfolding firstAt secondAt
   same-below k l =
       let (first, second) = same (k / width) (omega arith) in
       elim (ℕ-discrete (k % width) 0) [

@@ -12,10 +12,8 @@ use lib.Seq.{getD-drop}
 use borrow.Author.Tests.{lt-ltb, ltb-true, le-leb, leb-true, eq-eqb, ne-eqb, eqb-true}
 use Rattle.calculus.specs.Tree.{Tree}
 use Rattle.calculus.specs.Rules.{Frame, operand, argument, function}
-use Rattle.table.specs.declared.frames.Frame.the-variants.{Operand, Argument, Function}
-use Rattle.table.specs.Slots.{slot}
-use Rattle.table.specs.Sound.{Sound}
-use Rattle.table.specs.Frames.{frameWidth, frameRoom, Record, recordOf, recordAt}
+use Rattle.table.specs.Sound.{SoundSlots}
+use Rattle.table.specs.Frames.{frameWidth, frameRoom, Record, recordAt}
 use Rattle.table.specs.Holds.{Holds, Stands, stands-operand, stands-argument, stands-function, StandFrom, ZeroFrom}
 use Rattle.table.specs.SoundFrames.{frameSound, eachSound, allZero, framesSound, SoundJob, SoundJobs}
 use Rattle.table.proofs.SoundLaws.{both-true}
@@ -140,12 +138,12 @@ apart e h = h (ap (λ (x : Record). x .tag) e)
 module _ (w : List ℕ) (used : ℕ) where
   -- words that stand for a frame are sound
   pub stands-sound : (r : Record) (f : Frame) → Stands w used r f → SoundJob used r
-  stands-sound r _ (stands-operand {a = a} {b = b} e h g) =
-      rw e (of-kind used (recordOf (Operand (slot a) (slot b))) (held-below h) (two refl (held-below g)))
-  stands-sound r _ (stands-argument {a = a} e h) =
-      rw e (of-kind used (recordOf (Argument (slot a))) (held-below h) (one (inl refl) refl))
-  stands-sound r _ (stands-function {a = a} e h) =
-      rw e (of-kind used (recordOf (Function (slot a))) (held-below h) (one (inr refl) refl))
+  stands-sound r _ (stands-operand e h g) =
+      rw e (of-kind used _ (held-below h) (two refl (held-below g)))
+  stands-sound r _ (stands-argument e h) =
+      rw e (of-kind used _ (held-below h) (one (inl refl) refl))
+  stands-sound r _ (stands-function e h) =
+      rw e (of-kind used _ (held-below h) (one (inr refl) refl))
 
   pub stand-sound : (j : List ℕ) (k : ℕ) (fs : List Frame) → StandFrom w used j k fs
       → (i : ℕ) → k ≤ i → i < k + length fs → SoundJob used (recordAt j i)
@@ -157,14 +155,14 @@ module _ (w : List ℕ) (used : ℕ) where
       ]
 
   -- sound words stand for a frame
-  sound-stands : Sound w used → (r : Record) → SoundJob used r → (f : Frame) × Stands w used r f
+  sound-stands : SoundSlots w used → (r : Record) → SoundJob used r → (f : Frame) × Stands w used r f
   sound-stands good r s =
-      let (t, h) = sound-holds w used (good .sound) (r .first) (s .first) in
+      let (t, h) = sound-holds w used good (r .first) (s .first) in
       go t h (kinds used r s)
     where
       go : (t : Tree) → Holds w used (r .first) t → Kinds used r → (f : Frame) × Stands w used r f
       go t h (two e l) =
-          let (u, g) = sound-holds w used (good .sound) (r .second) l in (
+          let (u, g) = sound-holds w used good (r .second) l in (
             operand t u,
             stands-operand {a = r .first} {b = r .second}
                 (λ i. record { tag = e i; first = r .first; second = r .second }) h g,
@@ -201,7 +199,7 @@ module _ (w : List ℕ) (used : ℕ) where
     standing-sound fs l h z =
         record { fits = l; each = λ k g. stand-sound j 0 fs h k (omega arith) (omega arith); above = z }
 
-    frames-from : Sound w used → (m k : ℕ) → ((i : ℕ) → k ≤ i → i < k + m → SoundJob used (recordAt j i))
+    frames-from : SoundSlots w used → (m k : ℕ) → ((i : ℕ) → k ≤ i → i < k + m → SoundJob used (recordAt j i))
         → (fs : List Frame) × (length fs ≡ m) × StandFrom w used j k fs
     frames-from good zero k each = ([], refl, tt)
     frames-from good (suc m) k each =
@@ -218,7 +216,7 @@ module _ (w : List ℕ) (used : ℕ) where
         cc (one-frame (recordAt j k) a b (h .0) (g .0), same-frames (suc k) fs gs (omega arith) (h .1) (g .1))
 
     -- Sound waiting jobs, over sound used slots, stand for just one list of frames.
-    pub one-list : Sound w used → (waiting : ℕ) → SoundJobs used j waiting
+    pub one-list : SoundSlots w used → (waiting : ℕ) → SoundJobs used j waiting
         → (fs : List Frame) × (length fs ≡ waiting) × StandFrom w used j 0 fs
         × ((other : List Frame) → length other ≡ waiting → StandFrom w used j 0 other → other ≡ fs)
     one-list good n s =

@@ -1,7 +1,9 @@
 -- Continuation frames, the paper's jobs: frame k is words 3k to 3k + 2 of its table.
-use Prim.Native.Nat.{ℕ, _+_, _*_, _/_, _<_}
+use Prim.Native.Nat.{ℕ, _+_, _*_, _/_, _≤_, _<_}
+use mathlib.Core.Path.{_≡_}
 use mathlib.Core.Bool.{cond}
 use mathlib.Core.List.{List}
+use mathlib.Core.Logic.{_⊎_}
 use lib.Dec.{eqb}
 use lib.ListN.{length, getD, set, replicate}
 use Rattle.table.specs.declared.frames.Frame.{Frame}
@@ -16,6 +18,12 @@ frameWidth = 3
 -- the job room: rounded down, at most 65,535
 unfoldable pub frameRoom : List ℕ → ℕ
 frameRoom j = atMost maxFrames (length j / frameWidth)
+
+-- "three to a job (room rounded down, at most 65,535)"
+abbrev pub JobRoomIs : Type 0
+JobRoomIs =
+    (j : List ℕ)
+    → (3 * frameRoom j ≤ length j) × (frameRoom j ≤ 65535) × ((frameRoom j ≡ 65535) ⊎ (length j < 3 * frameRoom j + 3))
 
 -- the three words of a frame
 pub record Record : Type 0 where
@@ -46,6 +54,12 @@ recordAt j k =
       first = getD j (frameWidth * k + 1) 0;
       second = getD j (frameWidth * k + 2) 0;
     }
+
+-- place k is words 3k, 3k + 1 and 3k + 2
+abbrev pub JobWords : Type 0
+JobWords =
+    (j : List ℕ) (k : ℕ)
+    → recordAt j k ≡ record { tag = getD j (3 * k) 0; first = getD j (3 * k + 1) 0; second = getD j (3 * k + 2) 0 }
 
 unfoldable pub putRecord : List ℕ → ℕ → Record → List ℕ
 putRecord j k v =

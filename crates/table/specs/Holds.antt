@@ -1,26 +1,24 @@
 -- What slots and frames stand for.
-use Prim.Native.Nat.{ℕ, suc, _*_, _≤_, _<_}
+use Prim.Native.Nat.{ℕ, suc, _+_, _*_, _≤_, _<_}
 use mathlib.Core.Path.{_≡_}
 use mathlib.Core.List.{List, [], _∷_}
 use lib.ListN.{length, getD}
 use Rattle.calculus.specs.Tree.{Tree, leaf, stem, fork}
 use Rattle.calculus.specs.Rules.{Frame, operand, argument, function}
-use Rattle.table.specs.declared.slots.Node.{Node}
-use Rattle.table.specs.declared.slots.Node.the-variants.{Leaf, Stem, Fork}
-use Rattle.table.specs.declared.frames.Frame.the-variants.{Operand, Argument, Function}
-use Rattle.table.specs.Slots.{width, slot, firstWord, secondWord, firstAt, secondAt}
-use Rattle.table.specs.Frames.{frameWidth, Record, recordOf, recordAt}
+use Rattle.table.specs.Frames.{Record, recordAt}
 
--- slot i has the words of this node
-pub record Has (w : List ℕ) (i : ℕ) (n : Node) : Type 0 where
-  pub first : firstAt w i ≡ firstWord n
-  pub second : secondAt w i ≡ secondWord n
+-- the words of slot i: 2i and 2i + 1, inside the table
+pub record Words (w : List ℕ) (i p q : ℕ) : Type 0 where
+  pub inside : 2 * i + 1 < length w
+  pub first : getD w (2 * i) 0 ≡ p
+  pub second : getD w (2 * i + 1) 0 ≡ q
 
--- among the first n slots of w, slot i holds the tree t
+-- among the first n slots of w, slot i holds the tree t: leaf is (0, 0); a stem on slot a is (a + 1, 0); a fork of a and b
+-- is (a + 1, b + 1)
 pub data Holds (w : List ℕ) (n : ℕ) : ℕ → Tree → Type 0 where
-  holds-leaf : {i : ℕ} → i < n → Has w i Leaf → Holds w n i leaf
-  holds-stem : {i a : ℕ} {t : Tree} → i < n → Has w i (Stem (slot a)) → Holds w n a t → Holds w n i (stem t)
-  holds-fork : {i a b : ℕ} {t u : Tree} → i < n → Has w i (Fork (slot a) (slot b))
+  holds-leaf : {i : ℕ} → i < n → Words w i 0 0 → Holds w n i leaf
+  holds-stem : {i a : ℕ} {t : Tree} → i < n → Words w i (a + 1) 0 → Holds w n a t → Holds w n i (stem t)
+  holds-fork : {i a b : ℕ} {t u : Tree} → i < n → Words w i (a + 1) (b + 1)
       → Holds w n a t → Holds w n b u → Holds w n i (fork t u)
 
 -- the slots from k on hold these trees, one after the other
@@ -35,21 +33,24 @@ Kept w n v m = (i : ℕ) (t : Tree) → Holds w n i t → Holds v m i t
 -- v has the words of w but for the slots from n up to m
 pub record Untouched (w : List ℕ) (n : ℕ) (v : List ℕ) (m : ℕ) : Type 0 where
   pub long : length v ≡ length w
-  pub under : (k : ℕ) → k < width * n → getD v k 0 ≡ getD w k 0
-  pub over : (k : ℕ) → width * m ≤ k → getD v k 0 ≡ getD w k 0
+  pub under : (k : ℕ) → k < 2 * n → getD v k 0 ≡ getD w k 0
+  pub over : (k : ℕ) → 2 * m ≤ k → getD v k 0 ≡ getD w k 0
 
--- three words stand for a frame of trees
+-- three words stand for a frame of trees: "then b to x" is (1, b, x), "then the result to v" (2, v, 0), "then w to the
+-- result" (3, w, 0)
 pub data Stands (w : List ℕ) (n : ℕ) (v : Record) : Frame → Type 0 where
-  stands-operand : {a b : ℕ} {t u : Tree} → v ≡ recordOf (Operand (slot a) (slot b))
+  stands-operand : {a b : ℕ} {t u : Tree} → v ≡ record { tag = 1; first = a; second = b }
       → Holds w n a t → Holds w n b u → Stands w n v (operand t u)
-  stands-argument : {a : ℕ} {t : Tree} → v ≡ recordOf (Argument (slot a)) → Holds w n a t → Stands w n v (argument t)
-  stands-function : {a : ℕ} {t : Tree} → v ≡ recordOf (Function (slot a)) → Holds w n a t → Stands w n v (function t)
+  stands-argument : {a : ℕ} {t : Tree} → v ≡ record { tag = 2; first = a; second = 0 }
+      → Holds w n a t → Stands w n v (argument t)
+  stands-function : {a : ℕ} {t : Tree} → v ≡ record { tag = 3; first = a; second = 0 }
+      → Holds w n a t → Stands w n v (function t)
 
 -- the places from k on stand for these frames, oldest first
 abbrev pub StandFrom : List ℕ → ℕ → List ℕ → ℕ → List Frame → Type 0
 StandFrom w n j k [] = Unit {0}
 StandFrom w n j k (f ∷ fs) = Stands w n (recordAt j k) f × StandFrom w n j (suc k) fs
 
--- every word from place k on is 0
+-- every word from 3k on is 0: those of place k and of all after it
 abbrev pub ZeroFrom : List ℕ → ℕ → Type 0
-ZeroFrom j k = (i : ℕ) → frameWidth * k ≤ i → getD j i 0 ≡ 0
+ZeroFrom j k = (i : ℕ) → 3 * k ≤ i → getD j i 0 ≡ 0

@@ -1,8 +1,9 @@
 -- Slots: slot i of the part of the table that is ours is its words 2i and 2i + 1.
-use Prim.Native.Nat.{ℕ, zero, suc, _+_, _*_, _/_, _<_}
+use Prim.Native.Nat.{ℕ, zero, suc, _+_, _*_, _/_, _≤_, _<_}
 use mathlib.Core.Path.{_≡_}
 use mathlib.Core.Bool.{cond}
 use mathlib.Core.List.{List}
+use mathlib.Core.Logic.{_⊎_}
 use lib.ListN.{length, getD, set}
 use lib.Dec.{ltb}
 use lib.IntN.{ℤ, pos, negsuc}
@@ -23,6 +24,10 @@ slot n = record { 0 = n }
 -- room is the smaller of 65,535 and half the words, rounded down
 unfoldable pub room : List ℕ → ℕ
 room w = atMost maxSlots (length w / width)
+
+-- "Room is the smaller of 65,535 and half the words, rounded down"
+abbrev pub RoomIs : Type 0
+RoomIs = (w : List ℕ) → (2 * room w ≤ length w) × (room w ≤ 65535) × ((room w ≡ 65535) ⊎ (length w < 2 * room w + 2))
 
 -- the slot of that number among the first `used`; a negative number names none
 unfoldable pub place : ℤ → ℕ → Place
@@ -72,4 +77,5 @@ Below i (Fork a b) = (a .0 < i) × (b .0 < i)
 
 -- the first n slots of two tables have the same words
 abbrev pub SameSlots : ℕ → List ℕ → List ℕ → Type 0
-SameSlots n w v = (i : ℕ) → i < n → (firstAt w i ≡ firstAt v i) × (secondAt w i ≡ secondAt v i)
+SameSlots n w v =
+    (i : ℕ) → i < n → (getD w (2 * i) 0 ≡ getD v (2 * i) 0) × (getD w (2 * i + 1) 0 ≡ getD v (2 * i + 1) 0)
