@@ -15,7 +15,7 @@ use Rattle.calculus.specs.Rules.{Frame, operand, argument, function}
 use Rattle.table.specs.Sound.{SoundSlots}
 use Rattle.table.specs.Frames.{frameWidth, frameRoom, Record, recordAt}
 use Rattle.table.specs.Holds.{Holds, Stands, stands-operand, stands-argument, stands-function, StandFrom, ZeroFrom}
-use Rattle.table.specs.SoundFrames.{frameSound, eachSound, allZero, framesSound, SoundJob, SoundJobs}
+use Rattle.table.specs.SoundFrames.{frameSound, eachSound, allZero, framesSound, SoundJob, SoundJobs, FramesSoundExactly, OneFrameList}
 use Rattle.table.proofs.SoundLaws.{both-true}
 use Rattle.table.proofs.HoldsLaws.{held-below, one-tree, sound-holds}
 
@@ -115,8 +115,7 @@ zero-from j n =
       λ h. are-zeros (drop d j) (λ i. getD-drop d j i 0 ∙ h (d + i) (omega arith)),
     )
 
--- The test says just that the waiting jobs are sound.
-pub frames-sound : (used : ℕ) (j : List ℕ) (waiting : ℕ) → (framesSound used j waiting ≡ true) ↔ SoundJobs used j waiting
+pub frames-sound : FramesSoundExactly
 unfolding framesSound
 frames-sound used j n = (
   λ e.
@@ -222,3 +221,6 @@ module _ (w : List ℕ) (used : ℕ) where
     one-list good n s =
         let (fs, l, h) = frames-from good n 0 (λ i a b. s .each i (omega arith)) in
         (fs, l, h, λ other m g. same-frames 0 other fs (m ∙ sym l) g h)
+
+pub one-frame-list : OneFrameList
+one-frame-list = one-list

@@ -14,7 +14,7 @@ use Rattle.table.specs.declared.slots.Node.{Node}
 use Rattle.table.specs.declared.slots.Node.the-variants.{Leaf, Stem, Fork}
 use Rattle.table.specs.Slots.{room, firstWord, secondWord, firstAt, secondAt, nodeOf, nodeAt, putNode, Below}
 use Rattle.table.specs.Slots.{SameSlots}
-use Rattle.table.specs.Sound.{slotSound, soundAt, sound, Sound, SoundSlot, SoundSlots}
+use Rattle.table.specs.Sound.{slotSound, soundAt, sound, Sound, SoundSlot, SoundSlots, SlotsSoundExactly}
 use Rattle.table.proofs.SlotLaws.{in-room, Has, room-put, put-here, first-other, second-other}
 
 pub both-true : (a b : Bool) → a && b ≡ true → (a ≡ true) × (b ≡ true)
@@ -59,13 +59,6 @@ module _ (w : List ℕ) where
     λ h. rw (each-sound n .1 (λ i l. h i (omega arith)), slot-sound n .1 (h n (omega arith))),
   )
 
-  -- The test says just that the first n slots are sound.
-  pub slots-sound : (n : ℕ) → Sound w n ↔ SoundSlots w n
-  slots-sound n = (
-    λ s. record { fits = s .fits; each = each-sound n .0 (s .sound) },
-    λ s. record { fits = s .fits; sound = each-sound n .1 (s .each) },
-  )
-
   -- where the test fails, some slot is not sound
   pub sound-breaks : (n : ℕ) → sound w n ≡ false → (i : ℕ) × (i < n) × (SoundSlot w i → ⊥)
   unfolding sound
@@ -75,6 +68,12 @@ module _ (w : List ℕ) where
       (λ h. let s = sound-breaks n h in (s .0, omega (arith, s .1), s .2))
       (λ h. (n, omega arith, λ s. false≢true (sym h ∙ slot-sound n .1 s)))
       (one-false (sound w n) (soundAt w n) e)
+
+pub slots-sound : SlotsSoundExactly
+slots-sound w n = (
+  λ s. record { fits = s .fits; each = each-sound w n .0 (s .sound) },
+  λ s. record { fits = s .fits; sound = each-sound w n .1 (s .each) },
+)
 
 -- ---- the nodes of sound slots
 

@@ -3,6 +3,7 @@ use Prim.Native.Nat.{ℕ, zero, suc, _+_, _*_, _≤_, _<_}
 use mathlib.Core.Path.{_≡_}
 use mathlib.Core.Bool.{Bool, true, _&&_}
 use mathlib.Core.List.{List}
+use mathlib.Core.Logic.{_↔_}
 use lib.Dec.{leb, eqb}
 use lib.ListN.{getD}
 use Rattle.calculus.specs.Tree.{leaf}
@@ -41,6 +42,10 @@ SoundSlot w (suc i) = (1 ≤ getD w (2 * suc i) 0) × (getD w (2 * suc i) 0 ≤ 
 pub record SoundSlots (w : List ℕ) (n : ℕ) : Type 0 where
   pub fits : n ≤ room w
   pub each : (i : ℕ) → i < n → SoundSlot w i
+
+-- The test says just that.
+abbrev pub SlotsSoundExactly : Type 0
+SlotsSoundExactly = (w : List ℕ) (n : ℕ) → Sound w n ↔ SoundSlots w n
 
 -- In a sound table only slot zero holds the leaf.
 abbrev pub OnlyZeroIsLeaf : Type 0

@@ -3,11 +3,13 @@ use Prim.Native.Nat.{ℕ, zero, suc, _*_, _≤_, _<_}
 use mathlib.Core.Path.{_≡_}
 use mathlib.Core.Bool.{Bool, true, _&&_, _||_}
 use mathlib.Core.List.{List, [], _∷_}
-use mathlib.Core.Logic.{_⊎_}
+use mathlib.Core.Logic.{_⊎_, _↔_}
 use lib.Dec.{leb, ltb, eqb}
-use lib.ListN.{drop}
+use lib.ListN.{length, drop}
+use Rattle.calculus.specs.Rules.{Frame}
+use Rattle.table.specs.Sound.{SoundSlots}
 use Rattle.table.specs.Frames.{frameWidth, frameRoom, Record, recordAt}
-use Rattle.table.specs.Holds.{ZeroFrom}
+use Rattle.table.specs.Holds.{StandFrom, ZeroFrom}
 
 -- ---- the test
 
@@ -45,3 +47,14 @@ pub record SoundJobs (used : ℕ) (j : List ℕ) (waiting : ℕ) : Type 0 where
   pub fits : waiting ≤ frameRoom j
   pub each : (k : ℕ) → k < waiting → SoundJob used (recordAt j k)
   pub above : ZeroFrom j waiting
+
+-- The test says just that.
+abbrev pub FramesSoundExactly : Type 0
+FramesSoundExactly = (used : ℕ) (j : List ℕ) (waiting : ℕ) → (framesSound used j waiting ≡ true) ↔ SoundJobs used j waiting
+
+-- Sound waiting jobs, over sound used slots, stand for just one list of frames.
+abbrev pub OneFrameList : Type 0
+OneFrameList =
+    (w : List ℕ) (used : ℕ) (j : List ℕ) → SoundSlots w used → (waiting : ℕ) → SoundJobs used j waiting
+    → (fs : List Frame) × (length fs ≡ waiting) × StandFrom w used j 0 fs
+    × ((other : List Frame) → length other ≡ waiting → StandFrom w used j 0 other → other ≡ fs)
