@@ -14,13 +14,13 @@ use Rattle.wire.specs.declared.Found.the-variants.{Index as FoundAt, Nothing}
 use Rattle.wire.proofs.Index.{index-among, index-is, index-none, found-not, apart-unfound}
 use Rattle.wire.proofs.Spans.{span-none}
 use Rattle.manifest_shape.specs.declared.parts.Parsed.the-variants.{To}
-use Rattle.manifest.specs.Content.{textAt, countAt, names}
+use Rattle.manifest.specs.Content.{textAt, names}
 use Rattle.manifest.specs.Judged.{exportsOf}
 use Rattle.manifest.proofs.Places.{place-name}
 use Rattle.bundle.specs.declared.exports.Part.{Part}
 use Rattle.bundle.specs.Directory.{manifestSection}
 use Rattle.bundle.specs.Checks.{nameRefusal}
-use Rattle.bundle.specs.Exports.{manifestStart, nameAt, namePart, nameCall, indexAsked, indexCall, answerOf, numbers}
+use Rattle.bundle.specs.Exports.{nameAt, namePart, nameCall, indexAsked, indexCall, answerOf, numbers}
 use Rattle.soundness.specs.FileGrammar.{SectionOf}
 use Rattle.soundness.specs.ManifestGrammar.{Contents, IsManifest, manifest, counted}
 use Rattle.soundness.specs.Sound.{Described}
@@ -52,42 +52,45 @@ refused-by file z = name-number-exactly file (nameRefusal file) .0 (refl, z)
 refused-not : (file : List ℕ) (n : ℕ) → Applies file n → n ≤ 14 → nameRefusal file ≡ 0 → ⊥
 refused-not file n a h z = name-none-exactly file .0 z n h a
 
-pub before-long : {m : Contents} {i : ℕ} {a b : List ℕ} → BeforeExport m i a → BeforeExport m i b → length a ≡ length b
+-- ---- name by index
+
+-- what a manifest says determines how many bytes stand before an export
+before-long : {m : Contents} {i : ℕ} {a b : List ℕ} → BeforeExport m i a → BeforeExport m i b → length a ≡ length b
 before-long (before-export h n e) (before-export h′ n′ e′) =
     simp length-append (omega (arith, head-long h h′, n .size, n′ .size, sequence-long _ (λ x a. export-long) e e′))
 
--- ---- name by index
-
--- one part of a described file is the name of an export
+-- so one part of a described file is the name of an export
 one-part : {file : List ℕ} → Described file → {m : Contents} {i : ℕ} {name : List ℕ} {p q : Part} →
     IsNamePart file m i name p → IsNamePart file m i name q → p ≡ q
 one-part {file} d {name = name} (name-part b m after k) (name-part c n after′ j) =
     let start = section-start file 1 (single-manifest d) in
     ap (λ (x : ℕ). record { start = x; size = length name }) (omega (arith, start _ k, start _ j, before-long b c))
 
--- that of the call is one
+-- it is known by its numbers
+part-as : {file : List ℕ} {m : Contents} {i : ℕ} {name : List ℕ} {p : Part} → IsNamePart file m i name p →
+    {start size : ℕ} → p .start ≡ start → p .size ≡ size → IsNamePart file m i name (record { start = start; size = size })
+part-as {file} {m} {i} {name} is e f =
+    subst (IsNamePart file m i name) (λ j. record { start = e j; size = f j }) is
+
+-- and the call answers it
 module _ (file : List ℕ) (d : Described file) (i : ℕ) where
-  abbrev s : List ℕ
-  s = manifestSection file
-
-  abbrev name : List ℕ
-  name = getD (names (d .manifest .exports)) i []
-
-  part-is : Stands s (d .manifest) i → IsNamePart file (d .manifest) i name (namePart file i)
+  part-is : Stands (manifestSection file) (d .manifest) i →
+      IsNamePart file (d .manifest) i (getD (names (d .manifest .exports)) i []) (namePart file i)
   unfolding namePart nameAt
   part-is x =
+      let s = manifestSection file in
+      let name = getD (names (d .manifest .exports)) i [] in
       let text : textAt s (To (x .at)) ≡ name =
       ap (textAt s) (sym (x .is-place)) ∙ sym (place-name s i) ∙ ap (λ es. getD (names es) i []) (read file d) in
       let all : d .manifest-bytes ≡ x .before ++ (x .size ++ (name ++ x .after)) =
       sym (section-only file 1 (single-manifest d) _ (d .manifest-section)) ∙ x .all ∙
       ap (λ (b : List ℕ). x .before ++ (x .size ++ (b ++ x .after))) text in
       let section = subst (SectionOf file 1) all (d .manifest-section) in
-      let start : section .entry .offset + (length (x .before) + 4) ≡ manifestStart file + (x .at + 4) =
-      omega (arith, section-start file 1 (single-manifest d) _ section, x .long) in
-      let long : length name ≡ countAt s (x .at) = ap length (sym text) ∙ sym (x .counts) in
+      let size = subst (λ (b : List ℕ). Number 4 (length b) (x .size)) text (x .is-size) in
       rw (fine file d, x .is-place)
-      (subst (IsNamePart file (d .manifest) i name) (λ j. record { start = start j; size = long j })
-      (name-part (x .is-before) (subst (λ (b : List ℕ). Number 4 (length b) (x .size)) text (x .is-size)) (x .after) section))
+      (part-as (name-part (x .is-before) size (x .after) section)
+      (omega (arith, section-start file 1 (single-manifest d) _ section, x .long))
+      (ap length (sym text) ∙ sym (x .counts)))
 
   part-none : length (d .manifest .exports) ≤ i → namePart file i ≡ record { start = 0; size = 0 }
   unfolding namePart nameAt
@@ -160,10 +163,7 @@ unfolding indexCall
 index-refused file name n s h =
     let (e, z) = name-number-exactly file n .1 (s, h) in rw (e, ne-eqb n 0 z)
 
-pub few-exports : {m : Contents} {s : List ℕ} → IsManifest m s → length (m .exports) ≤ 32
-few-exports (manifest a (counted n l most q) h i) = most
-
--- the call answers by one of these promises, and so does any that keeps them
+-- each name of a described file has one of these answers
 only-asked : (call : IndexCall) → IndexByName call → NoSuchName call → EmptyName call →
     (file : List ℕ) (d : Described file) (name : List ℕ) → call file name ≡ index file name
 only-asked call by-name no-such empty file d [] = empty file d ∙ sym (empty-name file d)
@@ -191,22 +191,32 @@ only-index call by-name no-such empty refused file name = elim (ℕ-discrete (na
       refused file name _ n h ∙ sym (index-refused file name _ n h)
 ]
 
-index-found : (xs : List (List ℕ)) (name : List ℕ) → length xs ≤ 32 →
-    (f : Found) → indexOf name 0 xs ≡ f → numbers (answerOf f) .index < 32
-index-found xs name most (FoundAt k) e = omega (arith, index-is name 0 xs k e .1)
-index-found xs name most Nothing e = omega arith
+pub few-exports : {m : Contents} {s : List ℕ} → IsManifest m s → length (m .exports) ≤ 32
+few-exports (manifest a (counted n l most q) h i) = most
+
+some-exports : {m : Contents} {s : List ℕ} → IsManifest m s → 1 ≤ length (m .exports)
+some-exports (manifest a (counted n least l q) h i) = least
+
+-- an index that a described file answers is one of its exports'
+index-within : (file : List ℕ) (d : Described file) (name : List ℕ) → index file name .index < length (d .manifest .exports)
+index-within file d [] = rw (ap (λ n. n .index) (empty-name file d)) (some-exports (d .is-manifest))
+index-within file d (b ∷ bs) =
+    rw (asked file d {name = b ∷ bs} (λ q. omega (arith, ap length q)) refl) (found (indexOf (b ∷ bs) 0 ns) refl)
+  where
+    ns : List (List ℕ)
+    ns = names (d .manifest .exports)
+
+    found : (f : Found) → indexOf (b ∷ bs) 0 ns ≡ f → numbers (answerOf f) .index < length (d .manifest .exports)
+    found (FoundAt k) e = omega (arith, index-is (b ∷ bs) 0 ns k e .1, names-length (d .manifest .exports))
+    found Nothing e = some-exports (d .is-manifest)
 
 pub index-below : IndexBelow
 unfolding indexCall
 index-below file name = elim (ℕ-discrete (nameRefusal file) 0) [
-  | yes clear ↦ go (described-exactly file .0 clear) name
-  | no k ↦ rw (ne-eqb (nameRefusal file) 0 k) (omega arith)
+  | yes e ↦
+      let d = described-exactly file .0 e in
+      let h = index-within file d name in
+      let most = few-exports (d .is-manifest) in
+      omega (arith, h, most)
+  | no z ↦ rw (ne-eqb (nameRefusal file) 0 z) (omega arith)
 ]
-  where
-    go : Described file → (name : List ℕ) → index file name .index < 32
-    go d [] = rw (ap (λ n. n .index) (empty-name file d)) (omega arith)
-    go d (b ∷ bs) =
-        let ns = names (d .manifest .exports) in
-        let most : length ns ≤ 32 = rw names-length (few-exports (d .is-manifest)) in
-        rw (asked file d {name = b ∷ bs} (λ q. absurd (omega (arith, ap length q))) refl)
-        (index-found ns (b ∷ bs) most (indexOf (b ∷ bs) 0 ns) refl)

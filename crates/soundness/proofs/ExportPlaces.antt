@@ -3,9 +3,9 @@ use Prim.Native.Nat.{ℕ, _≤_, _<_}
 use mathlib.Core.Path.{_≡_, ap, subst, _∙_}
 use mathlib.Core.List.{List, _++_, append-assoc}
 use native.Mathlib.Omega.{arith}
-use lib.ListN.{length, drop}
+use lib.ListN.{length, take, drop}
 use Rattle.wire.specs.Wire.{orZero}
-use Rattle.wire.specs.Relations.{Number}
+use Rattle.wire.specs.Relations.{Number, Sequence}
 use Rattle.wire.proofs.Reading.{Reads, reads-all, reads-join, reads-split, number-reads, reads-number}
 use Rattle.sizes.specs.Sizes.{exportsSize}
 use Rattle.manifest_shape.specs.declared.parts.Parsed.the-variants.{To, Bad}
@@ -13,10 +13,10 @@ use Rattle.manifest_shape.specs.declared.parts.Kind.the-variants.{Export}
 use Rattle.manifest_shape.specs.declared.Layout.{Layout}
 use Rattle.manifest_shape.specs.declared.Manifest.the-variants.{Shape}
 use Rattle.manifest_shape.specs.Shape.{sizedEnd, stringEnd, exportEnd, itemEnd, manifestOf}
-use Rattle.manifest.specs.Content.{textAt, countAt, exportsAt, placesAt}
+use Rattle.manifest.specs.Content.{Export as Exported, textAt, countAt, exportsAt, placesAt}
 use Rattle.manifest.specs.Judged.{exportPlace}
 use Rattle.manifest.proofs.Lists.{list-past}
-use Rattle.soundness.specs.ManifestGrammar.{Contents, IsManifest}
+use Rattle.soundness.specs.ManifestGrammar.{Contents, IsExport, IsManifest}
 use Rattle.soundness.specs.ExportCalls.{BeforeExport, before-export}
 use Rattle.soundness.proofs.ManifestParses.{then-to}
 use Rattle.soundness.proofs.ManifestPieces.{string-past, export-past, sized-reads}
@@ -65,7 +65,9 @@ module _ {s : List ℕ} {l : Layout} (g : manifestOf s ≡ Shape l) {metadata ex
       let (at, _, f, x, y, z) = item-at s Export _ _ _ (export-past s) (export-kind s) n i _ (rw (k, q) at h) ends in
       let (earlier, v, j, _) = items-forth s Export _ _ _ (export-past s) (export-kind s) i (u .fits) f in
       then-to (stringEnd s at) _ x λ past name-ends _.
-      stands-read (rw (g, k) y) (before-export {count = c} {earlier = earlier} is-head (rw (k, q) m) (rw (k, ← z) j))
+      let front : Sequence IsExport (take i (exportsAt s (l .exports))) earlier =
+      subst (λ (xs : List Exported). Sequence IsExport xs earlier) (rw k z) j in
+      stands-read (rw (g, k) y) (before-export {count = c} is-head (rw (k, q) m) front)
       (reads-join r (reads-join u v)) (string-past s at past name-ends)
 
   place-none : (i : ℕ) → length (exportsAt s (l .exports)) ≤ i → exportPlace s i ≡ Bad

@@ -9,6 +9,7 @@ use Rattle.manifest.specs.Content.{Root, Export}
 use Rattle.soundness.specs.ManifestGrammar.{Contents, IsString, string, IsRoot, root, IsExport, export}
 use Rattle.soundness.specs.ManifestGrammar.{IsCounted, counted, IsHead, head}
 
+-- things of which each says how long it is
 module _ {A : Type 0} {Is : A → List ℕ → Type 0} (size : A → ℕ) (long : (x : A) (a : List ℕ) → Is x a → length a ≡ size x) where
   pub sequence-long : {xs : List A} {a b : List ℕ} → Sequence Is xs a → Sequence Is xs b → length a ≡ length b
   sequence-long none none = refl

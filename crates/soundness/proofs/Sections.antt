@@ -24,6 +24,7 @@ module _ (file : List ℕ) (kind : ℕ) (once : OccursAgain kind (readDirectory 
       let a = of-directory (Among e) (k .has-directory) (k .listed) in
       section-mirrored file kind e a (k .of-kind) (once-mirrored file kind .1 once) ∙ one-section (k .is-section) .1
 
+  -- where it starts
   pub section-start : (s : List ℕ) (k : SectionOf file kind s) → entryOf kind (entries file) .offset ≡ k .entry .offset
   section-start s k =
       let a = of-directory (Among (k .entry)) (k .has-directory) (k .listed) in
