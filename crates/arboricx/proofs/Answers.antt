@@ -6,12 +6,11 @@ use native.Mathlib.Omega.{arith}
 use lib.IntN.{ℤ}
 use mir.Syntax.{w32}
 use mir.Val.{Fits}
-use Rattle.sizes.specs.Sizes.{exportsSize}
 use Rattle.bundle.specs.declared.exports.IndexAnswer.{IndexAnswer}
 use Rattle.bundle.specs.declared.exports.IndexAnswer.the-variants.{Index}
 use Rattle.bundle.specs.Exports.{indexCall}
 use Rattle.bundle.specs.Exports as exports
-use Rattle.soundness.proofs.Meaning.{index-below}
+use Rattle.soundness.proofs.ExportCalls.{index-below}
 use Rattle.loader.specs.declared.LoadAnswer.{LoadAnswer}
 use Rattle.loader.specs.Load.{Loaded, loaded}
 use Rattle.loader.specs.Answer as loader
@@ -49,6 +48,6 @@ index-told e h = rw (← h) (ap afterIndex e)
 -- it is a word
 pub index-cast : (file name : List ℕ) {a : IndexAnswer} {i : ℕ} → a ≡ indexCall file name → a ≡ Index i → Fits w32 i
 index-cast file name e h =
-    let l : exports.numbers (Index _) .index < exportsSize .most =
-    subst (λ (b : IndexAnswer). exports.numbers b .index < exportsSize .most) (sym e ∙ h) (index-below file name) in
+    let l : exports.numbers (Index _) .index < 32 =
+    subst (λ (b : IndexAnswer). exports.numbers b .index < 32) (sym e ∙ h) (index-below file name) in
     record { fits = omega (arith, l) }

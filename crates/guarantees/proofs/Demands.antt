@@ -5,7 +5,8 @@ use lib.ListN.{drop}
 use lib.IntN.{ℤ}
 use Rattle.table.specs.Slots.{room}
 use Rattle.table.proofs.SlotLaws.{room-long}
-use Rattle.soundness.proofs.Meaning.{names-refused, name-by-index, no-such-name}
+use Rattle.soundness.proofs.ExportCalls.{name-by-index, name-refused, name-bytes, name-in-file, only-name}
+use Rattle.soundness.proofs.ExportCalls.{index-by-name, no-such-name, empty-name, index-refused, only-index}
 use Rattle.soundness.proofs.Meaning as checks
 use Rattle.engine.specs.Run.{run}
 use Rattle.soundness.proofs.Applies.{number-exactly, none-exactly}
@@ -37,9 +38,14 @@ demand-1 =
       load-refused = refused-by-lowest;
       run-refused = refused-exactly;
       run-kept = refusal-keeps;
-      names-refused = names-refused;
       name-by-index = name-by-index;
+      name-refused = name-refused;
+      name-bytes = name-bytes;
+      name-in-file = name-in-file;
+      index-by-name = index-by-name;
       no-such-name = no-such-name;
+      empty-name = empty-name;
+      index-refused = index-refused;
       load-blind = load-blind;
       run-blind = base-blind;
       load-zero = λ file words words′ base exports exports′ a e z.
@@ -61,6 +67,8 @@ demand-2 =
       by-number = number-exactly;
       by-none = none-exactly;
       only-check = checks.only-check;
+      only-name = only-name;
+      only-index = only-index;
     }
 
 -- the requests start from what the load left

@@ -12,9 +12,11 @@ use Rattle.table.specs.Holds.{Holds}
 use Rattle.engine.specs.declared.RunAnswer.{RunAnswer}
 use Rattle.engine.specs.Run.{ran, run}
 use Rattle.engine.specs.Answer as engine
-use Rattle.soundness.specs.Meaning.{NamesRefused, NameByIndex, NoSuchName}
 use Rattle.soundness.specs.Meaning as checks
 use Rattle.soundness.specs.Applies.{NumberExactly, NoneExactly}
+use Rattle.bundle.specs.Exports.{namePart}
+use Rattle.soundness.specs.ExportCalls.{NameByIndex, NameRefused, NameBytes, NameInFile, OnlyName}
+use Rattle.soundness.specs.ExportCalls.{index, IndexByName, NoSuchName, EmptyName, IndexRefused, OnlyIndex}
 use Rattle.loader.specs.declared.LoadAnswer.{LoadAnswer}
 use Rattle.loader.specs.Answer.{numbers}
 use Rattle.loader.specs.Load.{loaded, load}
@@ -34,10 +36,16 @@ pub record Demand1 : Type 0 where
   pub load-refused : RefusedByLowest
   pub run-refused : RefusedExactly
   pub run-kept : RefusalKeeps
-  -- a call asked for a name answers the empty part, also where there is no such index; one asked for an index, 25
-  pub names-refused : NamesRefused
-  pub name-by-index : NameByIndex
-  pub no-such-name : NoSuchName
+  -- a call asked for a name answers the part of the file that it is, (0, 0) by 1 to 14 or where there is no such index
+  pub name-by-index : NameByIndex namePart
+  pub name-refused : NameRefused namePart
+  pub name-bytes : NameBytes
+  pub name-in-file : NameInFile
+  -- a call asked for an index answers it, 25 where there is no such name, or the smallest of 1 to 14
+  pub index-by-name : IndexByName index
+  pub no-such-name : NoSuchName index
+  pub empty-name : EmptyName index
+  pub index-refused : IndexRefused index
   -- nothing before our part of the table is written or looked at
   pub load-blind : LoadBlind
   pub run-blind : BaseBlind
@@ -62,6 +70,9 @@ pub record Demand2 : Type 0 where
   pub by-number : NumberExactly
   pub by-none : NoneExactly
   pub only-check : checks.OnlyCheck
+  -- and of the two calls on exports
+  pub only-name : OnlyName
+  pub only-index : OnlyIndex
 
 -- 3. For every accepted bundle and every list of runs after it, refused ones included, the runs go as the bundle's own trees
 -- do on the reference machine. One claim about the whole list: from the table and the used count that the load left, any

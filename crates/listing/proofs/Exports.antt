@@ -12,7 +12,8 @@ use Rattle.bundle.specs.Exports.{nameCall}
 use Rattle.soundness.specs.Sound.{Described}
 use Rattle.soundness.proofs.ManifestMeaning.{reads-exports}
 use Rattle.soundness.proofs.Sections.{described-manifest}
-use Rattle.soundness.proofs.Meaning.{few-exports as few-listed, accepted-exactly, name-by-index}
+use Rattle.soundness.proofs.Meaning.{accepted-exactly}
+use Rattle.soundness.proofs.ExportCalls.{few-exports as few-listed, name-bytes}
 use Rattle.loader.specs.Load.{exportsIn}
 
 short-name : (es : List Export) → ((e : Export) → Among e es → length (e .name) ≤ 64) → (i : ℕ) →
@@ -36,4 +37,4 @@ module _ (file : List ℕ) (clear : refusal file ≡ 0) where
   short-names = rw read (short-name (described .manifest .exports) (λ e a. described .named .sizes e a .1))
 
   pub name-at : (i : ℕ) → nameCall file i ≡ getD (names (exportsIn file)) i []
-  name-at i = rw read (name-by-index file described i)
+  name-at i = rw read (name-bytes file i .0 described)

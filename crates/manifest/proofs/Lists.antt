@@ -30,6 +30,18 @@ module _ {A : Type 0} (end : ℕ → Parsed) (read : ℕ → A) where
   list-none zero p h = refl
   list-none (suc n) p h = absurd (omega arith)
 
+  -- past the last there is none
+  pub list-past : (d : A) (n p i : ℕ) → n ≤ i → getD (listFrom end read n p) i d ≡ d
+  unfolding listFrom
+  list-past d zero p i h = refl
+  list-past d (suc n) p zero h = absurd (omega arith)
+  list-past d (suc n) p (suc i) h = ends (end p) (λ q. list-past d n q i (omega arith))
+    where
+      ends : (x : Parsed) → ((q : ℕ) → getD (listFrom end read n q) i d ≡ d) →
+          getD (onParsed x (λ q. read p ∷ listFrom end read n q) []) (suc i) d ≡ d
+      ends (To q) rest = rest q
+      ends Bad rest = refl
+
 -- `all xs` are what `one x` is of the things in xs
 module _ {A B : Type 0} (one : A → B) (all : List A → List B) (none : [] ≡ all [])
     (more : (x : A) (xs : List A) → one x ∷ all xs ≡ all (x ∷ xs)) where

@@ -5,6 +5,7 @@ pub mod ManifestWhole
 pub mod ManifestFaults
 pub mod ManifestStrings
 pub mod ManifestMeaning
+pub mod ManifestLengths
 pub mod NodesFormat
 pub mod NodesTests
 pub mod NodesCircles
@@ -27,3 +28,5 @@ pub mod SectionRows
 pub mod Calls
 pub mod Applies
 pub mod Meaning
+pub mod ExportPlaces
+pub mod ExportCalls

@@ -1,9 +1,9 @@
 -- Several things one after the other, and a count and as many things: they parse where the single thing does.
-use Prim.Native.Nat.{ℕ, zero, suc, _+_, _≤_}
+use Prim.Native.Nat.{ℕ, zero, suc, _+_, _≤_, _<_}
 use mathlib.Core.Path.{_≡_, refl, ap}
 use mathlib.Core.List.{List, [], _++_}
 use native.Mathlib.Omega.{arith}
-use lib.ListN.{length}
+use lib.ListN.{length, getD, take}
 use Rattle.wire.specs.Wire.{numberAt, onNumber}
 use Rattle.wire.specs.Relations.{Sequence, none, next}
 use Rattle.wire.specs.declared.Num.the-variants.{Value}
@@ -12,11 +12,11 @@ use Rattle.sizes.specs.Sizes.{within, capabilitiesSize, rootsSize, exportsSize,
 use Rattle.sizes.specs.declared.Size.{Size}
 use Rattle.sizes.proofs.Within.{within-exactly}
 use Rattle.manifest_shape.specs.declared.parts.Parsed.{Parsed}
-use Rattle.manifest_shape.specs.declared.parts.Parsed.the-variants.{To}
+use Rattle.manifest_shape.specs.declared.parts.Parsed.the-variants.{To, Bad}
 use Rattle.manifest_shape.specs.declared.parts.Kind.{Kind}
 use Rattle.manifest_shape.specs.declared.parts.Kind.the-variants.{Text, Root, Export, Field}
 use Rattle.manifest_shape.specs.Shape.{sizedEnd, fieldEnd, itemEnd, itemsEnd, countedEnd}
-use Rattle.manifest.specs.Content.{textAt, countAt, listFrom, rootsAt, exportsAt}
+use Rattle.manifest.specs.Content.{textAt, countAt, exportAt, listFrom, rootsAt, exportsAt}
 use Rattle.soundness.specs.ManifestGrammar.{IsString, IsRoot, IsExport, IsField, IsCounted, counted}
 use Rattle.soundness.proofs.ManifestParses.{Parses, then-to, number-to, cond-to}
 use Rattle.soundness.proofs.ManifestPieces.{string-past, root-past, export-past}
@@ -60,6 +60,18 @@ module _ {A : Type 0} (s : List ℕ) (kind : Kind) (past : ℕ → Parsed) (read
       let (k, m) = items-back u j in
       (rw g k, rw (ends _ p g, h, m))
 
+  -- of n things, where the one with an index stands: where as many before it end
+  pub item-at : (n i at : ℕ) {e : ℕ} → i < n → itemsEnd s kind n at ≡ To e →
+      (p q : ℕ) × (itemsEnd s kind i at ≡ To p) × (itemEnd s kind p ≡ To q) ×
+      (getD (listFrom past (λ p. To p) n at) i Bad ≡ To p) × (listFrom past read i at ≡ take i (listFrom past read n at))
+  unfolding itemsEnd listFrom
+  item-at zero i at h g = absurd (omega arith)
+  item-at (suc n) zero at h g = then-to (itemEnd s kind at) _ g λ q k l. (at, q, refl, k, rw (ends at q k), refl)
+  item-at (suc n) (suc i) at h g =
+      then-to (itemEnd s kind at) _ g λ o k l.
+      let (p, q, f, t, a, b) = item-at n i o (omega arith) l in
+      (p, q, rw k f, t, rw (ends at o k) a, rw (ends at o k, b))
+
   counted-forth : (size : Size) {at e : ℕ} → countedEnd s kind size at ≡ To e →
       (b : List ℕ) × Reads s at e b × IsCounted Is (size .least) (size .most) (countedAt s past read at) b
   counted-forth size {at} g =
@@ -96,6 +108,10 @@ module _ (s : List ℕ) where
   pub text-kind : Parses s (itemEnd s Text) (λ p. textAt s (To p)) IsString
   unfolding itemEnd
   text-kind = string-parses s
+
+  pub export-kind : Parses s (itemEnd s Export) (exportAt s) IsExport
+  unfolding itemEnd
+  export-kind = export-parses s
 
   pub text-counted : Parses s (countedEnd s Text capabilitiesSize) (countedAt s (sizedEnd s) (λ p. textAt s (To p)))
       (IsCounted IsString 0 4294967295)

@@ -33,7 +33,7 @@ module _ (s : List ℕ) (at : ℕ) where
   unfolding textAt
   text-is k = rw k
 
-  sized-reads : {e : ℕ} → sizedEnd s at ≡ To e →
+  pub sized-reads : {e : ℕ} → sizedEnd s at ≡ To e →
       (n : List ℕ) × Number 4 (length (textAt s (To at))) n × Reads s at e (n ++ textAt s (To at))
   unfolding sizedEnd
   sized-reads g =

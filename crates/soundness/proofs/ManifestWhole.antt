@@ -127,7 +127,7 @@ contentsAt s l =
     }
 
 -- what a found layout reads is what the bytes are: up to the exports, and from there on
-head-reads : {s : List ℕ} {l : Layout} {metadata extensions : ℕ} → Laid s l metadata extensions →
+pub head-reads : {s : List ℕ} {l : Layout} {metadata extensions : ℕ} → Laid s l metadata extensions →
     (b : List ℕ) × Reads s 0 (l .exports) b × IsHead (contentsAt s l) b
 unfolding itemEnd
 head-reads {s} {l} t =

@@ -5,7 +5,7 @@ use mathlib.Core.List.{List}
 use Rattle.wire.specs.Relations.{Among}
 use Rattle.manifest.specs.Judged.{exportsOf}
 use Rattle.nodes.specs.Records.{Node, nodesOf}
-use Rattle.bundle.specs.Directory.{section, manifestSection, nodesSection}
+use Rattle.bundle.specs.Directory.{entries, entryOf, section, manifestSection, nodesSection}
 use Rattle.soundness.specs.FileGrammar.{Entry, HasDirectory, SectionOf, Occurs, OccursAgain}
 use Rattle.soundness.specs.ManifestGrammar.{Contents, IsManifest}
 use Rattle.soundness.specs.NodesGrammar.{IsNodes}
@@ -14,7 +14,7 @@ use Rattle.soundness.specs.Applies.{HasManifest, manifest, HasNodes, nod
 use Rattle.soundness.proofs.ManifestMeaning.{reads-exports}
 use Rattle.soundness.proofs.NodesMeaning.{reads-nodes}
 use Rattle.soundness.proofs.FileFormat.{readHeader, readDirectory, of-directory, one-section, has-section}
-use Rattle.soundness.proofs.Mirror.{once-mirrored, section-mirrored}
+use Rattle.soundness.proofs.Mirror.{once-mirrored, entry-mirrored, section-mirrored}
 use Rattle.soundness.proofs.Directory.{Inside, All}
 
 module _ (file : List ℕ) (kind : ℕ) (once : OccursAgain kind (readDirectory file) → ⊥) where
@@ -23,6 +23,12 @@ module _ (file : List ℕ) (kind : ℕ) (once : OccursAgain kind (readDirectory 
       let e = k .entry in
       let a = of-directory (Among e) (k .has-directory) (k .listed) in
       section-mirrored file kind e a (k .of-kind) (once-mirrored file kind .1 once) ∙ one-section (k .is-section) .1
+
+  -- where it starts
+  pub section-start : (s : List ℕ) (k : SectionOf file kind s) → entryOf kind (entries file) .offset ≡ k .entry .offset
+  section-start s k =
+      let a = of-directory (Among (k .entry)) (k .has-directory) (k .listed) in
+      entry-mirrored file kind (k .entry) a (k .of-kind) (once-mirrored file kind .1 once) .0
 
   pub section-read : HasDirectory (readHeader file) (readDirectory file) file → All file (Inside file) →
       Occurs kind (readDirectory file) → SectionOf file kind (section file kind)

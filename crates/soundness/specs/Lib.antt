@@ -8,3 +8,4 @@ pub mod FileMeaning
 pub mod Sound
 pub mod Applies
 pub mod Meaning
+pub mod ExportCalls

@@ -1,17 +1,14 @@
--- What the answers of the checks and of the export calls mean. The proofs are in proofs/Meaning.antt.
-use Prim.Native.Nat.{ℕ, _+_, _≤_, _<_}
+-- What the answers of the checks mean. The proofs are in proofs/Meaning.antt.
+use Prim.Native.Nat.{ℕ, _≤_}
 use mathlib.Core.Path.{_≡_}
 use mathlib.Core.Logic.{_↔_, _⊎_}
-use mathlib.Core.List.{List, []}
-use lib.ListN.{length, getD}
+use mathlib.Core.List.{List}
+use lib.ListN.{length}
 use Rattle.wire.specs.Relations.{Among}
 use Rattle.calculus.specs.Tree.{Tree}
-use Rattle.sizes.specs.Sizes.{exportsSize}
-use Rattle.manifest.specs.Content.{names}
 use Rattle.nodes.specs.Records.{Node}
 use Rattle.soundness.specs.Graph.{Names}
 use Rattle.bundle.specs.Checks.{nameRefusal, refusal}
-use Rattle.bundle.specs.Exports.{emptyPart, namePart, nameCall, indexCall, numbers}
 use Rattle.soundness.specs.Sound.{Described, Sound}
 use Rattle.soundness.specs.Applies.{Applies, Smallest}
 
@@ -45,40 +42,6 @@ OneTreeEach =
     (file : List ℕ) (sound : Sound file) (r : Node) → Among r (sound .nodes) →
     (t : Tree) × Names (sound .nodes) (r .hash) t × ((u : Tree) → Names (sound .nodes) (r .hash) u → u ≡ t)
 
--- no sound file has a longer nodes section
+-- "the longest nodes section is 51,656 bytes": no sound file has a longer one
 abbrev pub LongestNodes : Type 0
 LongestNodes = (file : List ℕ) (sound : Sound file) → length (sound .nodes-bytes) ≤ 51656
-
--- in a described file the name by index is the export's, and the empty part past the last
-abbrev pub NameByIndex : Type 0
-NameByIndex =
-    (file : List ℕ) (d : Described file) (i : ℕ) → nameCall file i ≡ getD (names (d .manifest .exports)) i []
-
--- the part that a name by index is lies in the file, whatever the file
-abbrev pub NameInFile : Type 0
-NameInFile = (file : List ℕ) (i : ℕ) → namePart file i .start + namePart file i .size ≤ length file
-
--- the index by name is that of the export with that name; with no such name it is 25; the empty name is the first export
-abbrev pub IndexByName : Type 0
-IndexByName =
-    (file : List ℕ) (d : Described file) (i : ℕ) → i < length (d .manifest .exports) →
-    numbers (indexCall file (getD (names (d .manifest .exports)) i [])) ≡ record { number = 0; index = i }
-
-abbrev pub NoSuchName : Type 0
-NoSuchName =
-    (file : List ℕ) (d : Described file) (name : List ℕ) → (name ≡ [] → ⊥) →
-    (Among name (names (d .manifest .exports)) → ⊥) → numbers (indexCall file name) ≡ record { number = 25; index = 0 }
-
-abbrev pub EmptyName : Type 0
-EmptyName = (file : List ℕ) → Described file → numbers (indexCall file []) ≡ record { number = 0; index = 0 }
-
--- an index that is answered is below the most exports that a bundle has, whatever the file and the name
-abbrev pub IndexBelow : Type 0
-IndexBelow = (file name : List ℕ) → numbers (indexCall file name) .index < exportsSize .most
-
--- where one of 1 to 14 holds, the calls answer the empty part and that number
-abbrev pub NamesRefused : Type 0
-NamesRefused =
-    (file : List ℕ) → (nameRefusal file ≡ 0 → ⊥) →
-    ((i : ℕ) → namePart file i ≡ emptyPart) ×
-    ((name : List ℕ) → numbers (indexCall file name) ≡ record { number = nameRefusal file; index = 0 })
