@@ -1,9 +1,11 @@
-# What is for C. The Rattle kit proves and builds the archive; the rest needs a C compiler, and Python for tests/header.py and fixtures/.
+# What is for C, and the tests. The Rattle kit proves and builds the archive; the rest needs a C compiler, and Python for tests/*.py and fixtures/.
 #
 #   make            the archive, target/staticlib/libarboricx.a
 #   make host       target/c/play, which plays an opponent out of a bundle
 #   make test       the outside tests, as the gate runs them: under two minutes
 #   make test-full  250,000 cases, and 50,000 with sanitizers; SEED=2 for others
+#   make index      docs/GUARANTEES.md against the tree
+#   make believe    docs/TRUST.md against the definitions that a reader has to believe
 #   make bench      the archive beside plain C
 
 OUT = target/c
@@ -16,7 +18,7 @@ TESTS = $(wildcard tests/*.c)
 BENCH = $(wildcard bench/*.c) tests/reference.c
 HEADERS = $(wildcard include/*.h tests/*.h bench/*.h)
 
-.PHONY: archive host test test-full header example played faults fixtures bench
+.PHONY: archive host test test-full index believe header example played faults fixtures bench
 archive:
 	@mkdir -p $(OUT)
 	@rt staticlib arboricx >$(OUT)/archive.log 2>&1 || { cat $(OUT)/archive.log; exit 1; }
@@ -42,13 +44,21 @@ $(OUT)/compare-sanitized: $(TESTS) $(HEADERS) $(ARCHIVE)
 $(OUT)/compare-faults: $(TESTS) $(HEADERS) $(ARCHIVE)
 	$(CC) $(CFLAGS) -DREFERENCE_FAULTS $(TESTS) $(ARCHIVE) -o $@
 
-test: header example played faults fixtures $(OUT)/compare $(OUT)/compare-sanitized
+test: index believe header example played faults fixtures $(OUT)/compare $(OUT)/compare-sanitized
 	$(OUT)/compare --seed $(SEED) --count 40000
 	$(OUT)/compare-sanitized --seed $(SEED) --count 8000
 
-test-full: header example played faults fixtures $(OUT)/compare $(OUT)/compare-sanitized
+test-full: index believe header example played faults fixtures $(OUT)/compare $(OUT)/compare-sanitized
 	$(OUT)/compare --seed $(SEED) --count 250000 --zeros 1
 	$(OUT)/compare-sanitized --seed $(SEED) --count 50000
+
+# The index of guarantees names what is there, and all of it.
+index:
+	python3 tests/guarantees.py
+
+# The list of what a reader has to believe is what the demands come to.
+believe:
+	python3 tests/believe.py
 
 # The header, the archive and the source agree in what they declare.
 header: $(ARCHIVE)
