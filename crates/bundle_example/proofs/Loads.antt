@@ -27,14 +27,10 @@ use Rattle.loader.specs.Load.{recordsIn, exportsIn, unfit, crowded, Loaded, loa
 use Rattle.loader.proofs.Refusals.{past-bundle}
 use Rattle.listing.specs.Text.{digits, newline}
 use Rattle.listing.specs.Listing.{line, lines, okLine, report, listing}
-use Rattle.bundle_example.specs.Leaf.{leafBundle}
+use Rattle.bundle_example.specs.Leaf.{leafBundle, leafHash}
 use Rattle.bundle_example.specs.Cases as changed
 use Rattle.bundle_example.specs.Loads.{Case, seenOf, cases, LoadsHold, Writes}
 use Rattle.bundle_example.proofs.Cases.{cases-hold}
-
--- the hash of the leaf's record
-abbrev leafHash : List ℕ
-leafHash = take 32 (drop 521 leafBundle)
 
 abbrev leafNodes : List Node
 leafNodes = record { hash = leafHash; payload = 0 ∷ [] } ∷ []

@@ -1,1 +1,1 @@
-// A worked bundle, byte by byte, accepted by computation, and changes of a byte that are refused: no code.
+// A worked bundle, byte by byte, accepted by computation, and changes of its bytes that are refused: no code.
