@@ -29,29 +29,29 @@ pub record Leaves (w : List ℕ) (n : ℕ) (j v : List ℕ) (m : ℕ) (k : List 
   pub places : waiting ≤ frameRoom k
   pub above : ZeroFrom k waiting
 
+-- "Done answers 0, the result's slot, steps, used count. A stop answers its number, the f and x still to be applied, steps,
+-- used count, jobs waiting. Numbers not named are 0."
+abbrev pub doneWith : ℕ → ℕ → ℕ → Numbers
+doneWith slot steps used =
+    record { number = 0; slot = pos slot; f = pos 0; x = pos 0; steps = steps; used = used; waiting = 0 }
+
+abbrev pub stoppedWith : ℕ → ℕ → ℕ → ℕ → ℕ → ℕ → Numbers
+stoppedWith number f x steps used waiting =
+    record { number = number; slot = pos 0; f = pos f; x = pos x; steps = steps; used = used; waiting = waiting }
+
 -- The tables and numbers that a run leaves and answers, and the machine's outcome: the same ending, number and steps;
 -- a used count that grows by the nodes made; slots and frames that stand for the machine's trees and frames, these
--- oldest first. Numbers not named are 0.
+-- oldest first.
 pub data Agrees (w : List ℕ) (n : ℕ) (j v k : List ℕ) : Numbers → Outcome → Type 0 where
   agrees-done : {slot steps : ℕ} {t : Tree} {made : List Tree}
       → Holds v (n + length made) slot t
       → Leaves w n j v (n + length made) k made 0
-      → Agrees w n j v k
-      (record { number = 0; slot = pos slot; f = pos 0; x = pos 0; steps = steps; used = n + length made; waiting = 0 })
+      → Agrees w n j v k (doneWith slot steps (n + length made))
       (record { ending = ended t; steps = steps; made = made })
   agrees-stop : {f x steps : ℕ} {why : Stop} {ft xt : Tree} {frames : List Frame} {made : List Tree}
       → Holds v (n + length made) f ft
       → Holds v (n + length made) x xt
       → StandFrom v (n + length made) k 0 frames
       → Leaves w n j v (n + length made) k made (length frames)
-      → Agrees w n j v k
-      (record {
-        number = stopNumber why;
-        slot = pos 0;
-        f = pos f;
-        x = pos x;
-        steps = steps;
-        used = n + length made;
-        waiting = length frames;
-      })
+      → Agrees w n j v k (stoppedWith (stopNumber why) f x steps (n + length made) (length frames))
       (record { ending = stopped why ft xt frames; steps = steps; made = made })

@@ -11,6 +11,7 @@ use Rattle.table.specs.SoundFrames.{SoundJobs}
 use Rattle.engine.specs.declared.RunAnswer.{RunAnswer}
 use Rattle.engine.specs.Run.{Ran, ran, run}
 use Rattle.engine.specs.Answer.{Numbers, numbers}
+use Rattle.guarantees.specs.Agrees.{doneWith, stoppedWith}
 use Rattle.guarantees.specs.Run.{RunCall, RefusesExactly, Simulates}
 use Rattle.guarantees.specs.Session.{Request, beforeOf, jobsOf, Bring, Table, answer, tableAfter, AllAlike}
 
@@ -40,30 +41,10 @@ pub record SameTables (n m : ℕ) (v k v′ k′ : List ℕ) (frames : List Fram
 pub data SameEnd (n : ℕ) (v k v′ k′ : List ℕ) : Numbers → Numbers → Type 0 where
   same-done : {slot slot′ steps m : ℕ} {t : Tree}
       → Holds v m slot t → Holds v′ m slot′ t → SameTables n m v k v′ k′ []
-      → SameEnd n v k v′ k′
-      (record { number = 0; slot = pos slot; f = pos 0; x = pos 0; steps = steps; used = m; waiting = 0 })
-      (record { number = 0; slot = pos slot′; f = pos 0; x = pos 0; steps = steps; used = m; waiting = 0 })
+      → SameEnd n v k v′ k′ (doneWith slot steps m) (doneWith slot′ steps m)
   same-stop : {number f x f′ x′ steps m : ℕ} {ft xt : Tree} {frames : List Frame}
       → Holds v m f ft → Holds v′ m f′ ft → Holds v m x xt → Holds v′ m x′ xt → SameTables n m v k v′ k′ frames
-      → SameEnd n v k v′ k′
-      (record {
-        number = number;
-        slot = pos 0;
-        f = pos f;
-        x = pos x;
-        steps = steps;
-        used = m;
-        waiting = length frames;
-      })
-      (record {
-        number = number;
-        slot = pos 0;
-        f = pos f′;
-        x = pos x′;
-        steps = steps;
-        used = m;
-        waiting = length frames;
-      })
+      → SameEnd n v k v′ k′ (stoppedWith number f x steps m (length frames)) (stoppedWith number f′ x′ steps m (length frames))
 
 -- what two calls on the same tables leave and answer: both are refused alike, and leave the tables as they were; or both
 -- end alike, and leave the words before the base as they were
