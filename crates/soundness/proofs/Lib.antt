@@ -26,3 +26,4 @@ pub mod SectionRows
 pub mod Calls
 pub mod Applies
 pub mod Meaning
+pub mod Skipped

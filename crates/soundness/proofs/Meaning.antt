@@ -1,8 +1,8 @@
 -- The answers mean what specs/Meaning.antt says.
 use Prim.Native.Nat.{ℕ, _≤_, _<_}
-use mathlib.Core.Path.{_≡_, refl, sym, ap, _∙_}
+use mathlib.Core.Path.{_≡_, refl, ap, _∙_}
 use mathlib.Core.List.{List, [], _∷_}
-use mathlib.Core.Logic.{_⊎_, inl, inr}
+use mathlib.Core.Logic.{_↔_, Iff·rfl, Iff·symm, Iff·trans}
 use native.Mathlib.Omega.{arith}
 use native.Mathlib.Decide.{ℕ-discrete}
 use borrow.Author.Tests.{ne-eqb}
@@ -21,24 +21,27 @@ use Rattle.bundle.specs.Directory.{manifestSection}
 use Rattle.bundle.specs.Checks.{nameChecks, checks, nameRefusal, refusal}
 use Rattle.bundle.specs.Exports.{namePart, indexAsked, indexCall, answerOf, numbers}
 use Rattle.soundness.specs.Sound.{Described, Sound}
-use Rattle.soundness.specs.Applies.{Applies, Smallest}
-use Rattle.soundness.specs.Meaning.{DescribedExactly, AcceptedExactly, RefusedByLowest, OneTreeEach, NameByIndex, IndexByName}
+use Rattle.soundness.specs.Meaning.{DescribedExactly, SoundExactly, AcceptedExactly, OneTreeEach, NameByIndex, IndexByName}
 use Rattle.soundness.specs.Meaning.{OnlyCheck, NameInFile, NoSuchName, EmptyName, IndexBelow, NamesRefused}
 use Rattle.soundness.specs.ManifestGrammar.{Contents, IsManifest, manifest, counted}
 use Rattle.bundle.proofs.Rows.{clear-first, first-clear}
-use Rattle.soundness.proofs.Smallest.{one-smallest}
-use Rattle.soundness.proofs.Applies.{names-ascend, ascending, number-exactly, name-number-exactly}
+use Rattle.soundness.proofs.Smallest.{one-number}
+use Rattle.soundness.proofs.Applies.{names-ascend, ascending, number-exactly, none-exactly, name-none-exactly}
 use Rattle.soundness.proofs.Each.{each-exactly}
 use Rattle.soundness.proofs.File.{few-nodes, clear-described, clear-sound, described-clear, sound-clear}
 use Rattle.soundness.proofs.Sections.{described-manifest}
 use Rattle.soundness.proofs.Calls.{names-length, found-there, name-read, part-inside, index-asked, asked-name}
 
-pub described-exactly : DescribedExactly
+-- the checks 1 to 14 answer 0 exactly for a described file
+pub unrefused-described : (file : List ℕ) → (nameRefusal file ≡ 0) ↔ Described file
 unfolding nameRefusal
-described-exactly file = (
+unrefused-described file = (
   λ e. clear-described file (first-clear 0 (nameChecks file) (names-ascend file) e),
   λ d. clear-first (nameChecks file) (described-clear file d),
 )
+
+pub described-exactly : DescribedExactly
+described-exactly file = Iff·trans (Iff·symm (unrefused-described file)) (name-none-exactly file)
 
 pub accepted-exactly : AcceptedExactly
 unfolding refusal
@@ -47,26 +50,11 @@ accepted-exactly file = (
   λ sound. clear-first (checks file) (sound-clear file sound),
 )
 
-pub refused-by-lowest : RefusedByLowest
-refused-by-lowest file = (
-  elim (ℕ-discrete (nameRefusal file) 0) [
-    | yes e ↦ inl e
-    | no n ↦ inr (name-number-exactly file (nameRefusal file) .0 (refl, n) .0)
-  ],
-  elim (ℕ-discrete (refusal file) 0) [
-    | yes e ↦ inl e
-    | no n ↦ inr (number-exactly file (refusal file) .0 (refl, n))
-  ],
-)
+pub sound-exactly : SoundExactly
+sound-exactly file = Iff·trans (Iff·symm (accepted-exactly file)) (none-exactly file)
 
 pub only-check : OnlyCheck
-only-check call accepts lowest file = go (lowest file) (refused-by-lowest file .1)
-  where
-    go : (call file ≡ 0) ⊎ Smallest (Applies file) (call file) → (refusal file ≡ 0) ⊎ Smallest (Applies file) (refusal file) →
-        call file ≡ refusal file
-    go (inl e) _ = e ∙ sym (accepted-exactly file .1 (accepts file .0 e))
-    go (inr l) (inl e) = accepts file .1 (accepted-exactly file .0 e) ∙ sym e
-    go (inr l) (inr m) = one-smallest l m
+only-check call exactly file = one-number (λ n. Iff·rfl) (exactly file) (number-exactly file)
 
 pub one-tree-each : OneTreeEach
 one-tree-each file sound r a =
@@ -125,7 +113,7 @@ index-found xs name most Nothing e = omega arith
 pub index-below : IndexBelow
 unfolding indexCall
 index-below file name = elim (ℕ-discrete (nameRefusal file) 0) [
-  | yes clear ↦ go (described-exactly file .0 clear) name
+  | yes clear ↦ go (unrefused-described file .0 clear) name
   | no k ↦ rw (ne-eqb (nameRefusal file) 0 k) (omega arith)
 ]
   where

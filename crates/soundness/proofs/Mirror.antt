@@ -13,7 +13,7 @@ use Rattle.wire.specs.Wire.{span}
 use Rattle.wire.specs.Relations.{Among, here, there}
 use Rattle.bundle.specs.declared.directory.Entry.{Entry as Read}
 use Rattle.bundle.specs.Header.{sectionCount}
-use Rattle.bundle.specs.Directory.{entryAt, entriesFrom, entries, sectionOf, occurrences, entryOf, section}
+use Rattle.bundle.specs.Directory.{entryAt, entriesFrom, entries, occurrences, entryOf, section}
 use Rattle.soundness.specs.FileGrammar.{Entry, Occurs, OccursAgain, again, later}
 use Rattle.soundness.proofs.FileFormat.{readHeader, readEntry, readEntries, readDirectory}
 
@@ -106,24 +106,31 @@ module _ (file : List ℕ) where
     there-mirrored =
         rw count-mirrored (some-counted kind (readDirectory file), λ o. counted-some kind (o .1) (o .2))
 
-    -- the section of a type that occurs once
-    section-from : (n p : ℕ) (e : Entry) → Among e (readEntries file n p) → e .kind ≡ kind →
+    -- the entry of a type that occurs once: where its section stands
+    entry-from : (n p : ℕ) (e : Entry) → Among e (readEntries file n p) → e .kind ≡ kind →
         count kind (readEntries file n p) ≤ 1 →
-        sectionOf file (entryOf kind (entriesFrom file n p)) ≡ span file (e .offset) (e .size)
+        (entryOf kind (entriesFrom file n p) .offset ≡ e .offset) × (entryOf kind (entriesFrom file n p) .size ≡ e .size)
     unfolding entryOf entriesFrom entryAt count readEntry readEntries
-    section-from (suc n) p e here k h = rw (eq-eqb (e .kind) kind k)
-    section-from (suc n) p e (there a) k h =
-        go (eqb (readEntry file p .kind) kind) refl (counted-some kind a k) (section-from n (p + 60) e a k)
+    entry-from (suc n) p e here k h = rw (eq-eqb (e .kind) kind k) (refl, refl)
+    entry-from (suc n) p e (there a) k h =
+        go (eqb (readEntry file p .kind) kind) refl (counted-some kind a k) (entry-from n (p + 60) e a k)
       where
         go : (b : Bool) → eqb (readEntry file p .kind) kind ≡ b → 0 < count kind (readEntries file n (p + 60)) →
             (count kind (readEntries file n (p + 60)) ≤ 1 →
-            sectionOf file (entryOf kind (entriesFrom file n (p + 60))) ≡ span file (e .offset) (e .size)) →
-            sectionOf file (entryOf kind (entriesFrom file (suc n) p)) ≡ span file (e .offset) (e .size)
+            (entryOf kind (entriesFrom file n (p + 60)) .offset ≡ e .offset) ×
+            (entryOf kind (entriesFrom file n (p + 60)) .size ≡ e .size)) →
+            (entryOf kind (entriesFrom file (suc n) p) .offset ≡ e .offset) ×
+            (entryOf kind (entriesFrom file (suc n) p) .size ≡ e .size)
         go true q some rest =
             let l : suc (count kind (readEntries file n (p + 60))) ≤ 1 = rw q at h in absurd (omega arith)
         go false q some rest = rw q (rest (rw q at h))
 
+    pub entry-mirrored : (e : Entry) → Among e (readDirectory file) → e .kind ≡ kind → occurrences kind (entries file) ≤ 1 →
+        (entryOf kind (entries file) .offset ≡ e .offset) × (entryOf kind (entries file) .size ≡ e .size)
+    unfolding entries sectionCount readHeader
+    entry-mirrored e a k h = entry-from (sectionCount file) 32 e a k (rw count-mirrored at h)
+
     pub section-mirrored : (e : Entry) → Among e (readDirectory file) → e .kind ≡ kind →
         occurrences kind (entries file) ≤ 1 → section file kind ≡ span file (e .offset) (e .size)
-    unfolding section entries sectionCount readHeader
-    section-mirrored e a k h = section-from (sectionCount file) 32 e a k (rw count-mirrored at h)
+    unfolding section
+    section-mirrored e a k h = rw (entry-mirrored e a k h .0, entry-mirrored e a k h .1)

@@ -7,4 +7,5 @@ pub mod FileGrammar
 pub mod FileMeaning
 pub mod Sound
 pub mod Applies
+pub mod Skipped
 pub mod Meaning
