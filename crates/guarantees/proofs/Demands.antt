@@ -9,6 +9,7 @@ use Rattle.soundness.proofs.Meaning.{names-refused, name-by-index, no-such-name
 use Rattle.soundness.proofs.Meaning as checks
 use Rattle.engine.specs.Run.{run}
 use Rattle.soundness.proofs.Applies.{number-exactly, none-exactly}
+use Rattle.soundness.proofs.Skipped.{skipped-unread}
 use Rattle.loader.specs.Answer.{Numbers, numbers}
 use Rattle.guarantees.specs.Session.{Request, Bring, AllAlike}
 use Rattle.guarantees.specs.Load.{Loads}
@@ -20,9 +21,9 @@ use Rattle.guarantees.proofs.RunSimulates.{run-simulates}
 use Rattle.guarantees.proofs.DoneStays.{done-stays}
 use Rattle.guarantees.proofs.SessionSimulates.{session-simulates}
 use Rattle.guarantees.proofs.SessionBlind.{session-blind}
-use Rattle.guarantees.proofs.LoadVerdict.{fits-exactly}
-use Rattle.guarantees.proofs.LoadAccepted.{accepted-exactly, refused-by-lowest}
+use Rattle.guarantees.proofs.LoadAccepted.{accepted-exactly, load-number-exactly, load-refusal-keeps}
 use Rattle.guarantees.proofs.LoadBlind.{load-blind}
+use Rattle.guarantees.proofs.LoadSkips.{load-skips}
 use Rattle.guarantees.proofs.LoadLeaves.{load-leaves}
 use Rattle.guarantees.proofs.OneOrder.{one-order, one-start}
 use Rattle.guarantees.proofs.OnlyLoad.{only-load}
@@ -34,7 +35,8 @@ use Rattle.guarantees.proofs.RunZero.{leaf-in, run-zero}
 pub demand-1 : Demand1
 demand-1 =
     record {
-      load-refused = refused-by-lowest;
+      load-numbers = load-number-exactly;
+      load-kept = load-refusal-keeps;
       run-refused = refused-exactly;
       run-kept = refusal-keeps;
       names-refused = names-refused;
@@ -52,15 +54,16 @@ pub demand-2 : Demand2
 demand-2 =
     record {
       accepted = accepted-exactly;
-      refused = refused-by-lowest;
-      fits = fits-exactly;
+      by-number = load-number-exactly;
       only-load = only-load;
       checked = checks.accepted-exactly;
+      sound-exactly = checks.sound-exactly;
       described = checks.described-exactly;
-      by-lowest = checks.refused-by-lowest;
-      by-number = number-exactly;
-      by-none = none-exactly;
+      check-by-number = number-exactly;
+      check-by-none = none-exactly;
       only-check = checks.only-check;
+      skipped-unread = skipped-unread;
+      load-skips = load-skips;
     }
 
 -- the requests start from what the load left

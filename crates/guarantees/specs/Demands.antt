@@ -14,15 +14,17 @@ use Rattle.engine.specs.Run.{ran, run}
 use Rattle.engine.specs.Answer as engine
 use Rattle.soundness.specs.Meaning.{NamesRefused, NameByIndex, NoSuchName}
 use Rattle.soundness.specs.Meaning as checks
+use Rattle.bundle.specs.Checks.{refusal}
 use Rattle.soundness.specs.Applies.{NumberExactly, NoneExactly}
+use Rattle.soundness.specs.Skipped.{SkippedUnread}
 use Rattle.loader.specs.declared.LoadAnswer.{LoadAnswer}
 use Rattle.loader.specs.Answer.{numbers}
 use Rattle.loader.specs.Load.{loaded, load}
 use Rattle.guarantees.specs.Run.{RunCall, started, RefusalKeeps, RefusedExactly, JobsSound, BaseBlind, DoneStays}
 use Rattle.guarantees.specs.OnlyRun.{OnlyRun, SameAll}
 use Rattle.guarantees.specs.Session.{Request, Bring, Table, AllAlike, SessionBlind}
-use Rattle.guarantees.specs.Load.{FitsExactly, AcceptedExactly, RefusedByLowest, OnlyLoad}
-use Rattle.guarantees.specs.Load.{Loads, OneOrder, OneStart, LoadBlind}
+use Rattle.guarantees.specs.Load.{AcceptedExactly, LoadNumberExactly, LoadRefusalKeeps, OnlyLoad}
+use Rattle.guarantees.specs.Load.{Loads, OneOrder, OneStart, LoadBlind, LoadSkips}
 
 -- slot zero of the table from the base on, a slot in its room, holds the leaf
 abbrev pub ZeroIsLeaf : ℤ → List ℕ → Type 0
@@ -31,7 +33,8 @@ ZeroIsLeaf base words = (b : ℕ) × (base ≡ pos b) × Holds (drop b words) (r
 -- 1. Any bytes, any slot, any table.
 pub record Demand1 : Type 0 where
   -- bad input is answered with a number from the list, and a refusal changes no lent word
-  pub load-refused : RefusedByLowest
+  pub load-numbers : LoadNumberExactly load
+  pub load-kept : LoadRefusalKeeps load
   pub run-refused : RefusedExactly
   pub run-kept : RefusalKeeps
   -- a call asked for a name answers the empty part, also where there is no such index; one asked for an index, 25
@@ -50,18 +53,21 @@ pub record Demand1 : Type 0 where
 -- 2. A bundle is accepted exactly when it is within the limits, fits the lent tables and is sound by the format, the digests and
 -- the node hashes. Otherwise the answer is the lowest number that applies.
 pub record Demand2 : Type 0 where
+  -- accepted exactly when; otherwise the lowest number
   pub accepted : AcceptedExactly
-  pub refused : RefusedByLowest
-  pub fits : FitsExactly
-  -- nothing is left open: no other call keeps these promises and leaves the bundle's trees
+  pub by-number : LoadNumberExactly load
+  -- nothing is left open: no other call keeps the promises of the numbers and of refusals and leaves the bundle's trees
   pub only-load : OnlyLoad
-  -- the same of the check alone, 1 to 20, and of the names, 1 to 14
+  -- the same of the check alone: sound is that none of 1 to 20 applies, and described that none of 1 to 14 does
   pub checked : checks.AcceptedExactly
+  pub sound-exactly : checks.SoundExactly
   pub described : checks.DescribedExactly
-  pub by-lowest : checks.RefusedByLowest
-  pub by-number : NumberExactly
-  pub by-none : NoneExactly
+  pub check-by-number : NumberExactly refusal
+  pub check-by-none : NoneExactly refusal
   pub only-check : checks.OnlyCheck
+  -- a section of any other type is skipped unread
+  pub skipped-unread : SkippedUnread
+  pub load-skips : LoadSkips
 
 -- 3. For every accepted bundle and every list of runs after it, refused ones included, the runs go as the bundle's own trees
 -- do on the reference machine. One claim about the whole list: from the table and the used count that the load left, any
