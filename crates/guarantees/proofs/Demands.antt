@@ -4,12 +4,19 @@ use mathlib.Core.List.{List}
 use lib.ListN.{drop}
 use lib.IntN.{ℤ}
 use Rattle.table.specs.Slots.{room}
-use Rattle.table.proofs.SlotLaws.{room-long}
+use Rattle.calculus.proofs.DoneExactly.{done-exactly}
+use Rattle.calculus.proofs.Stops.{stops-exactly}
+use Rattle.table.proofs.SlotLaws.{room-long, room-is}
+use Rattle.table.proofs.FrameLaws.{job-room-is, job-words}
+use Rattle.table.proofs.SoundFrames.{one-frame-list}
 use Rattle.soundness.proofs.ExportCalls.{name-by-index, name-refused, name-bytes, name-in-file, only-name}
 use Rattle.soundness.proofs.ExportCalls.{index-by-name, no-such-name, empty-name, index-refused, only-index}
 use Rattle.soundness.proofs.Meaning as checks
 use Rattle.engine.specs.Run.{run}
 use Rattle.soundness.proofs.Applies.{number-exactly, none-exactly}
+use Rattle.soundness.proofs.Skipped.{skipped-unread}
+use Rattle.soundness.proofs.FileMeaning.{big-endian}
+use Rattle.soundness.proofs.NodesMeaning.{reads-children, hashed-bytes, longest-reached}
 use Rattle.loader.specs.Answer.{Numbers, numbers}
 use Rattle.guarantees.specs.Session.{Request, Bring, AllAlike}
 use Rattle.guarantees.specs.Load.{Loads}
@@ -21,9 +28,9 @@ use Rattle.guarantees.proofs.RunSimulates.{run-simulates}
 use Rattle.guarantees.proofs.DoneStays.{done-stays}
 use Rattle.guarantees.proofs.SessionSimulates.{session-simulates}
 use Rattle.guarantees.proofs.SessionBlind.{session-blind}
-use Rattle.guarantees.proofs.LoadVerdict.{fits-exactly}
-use Rattle.guarantees.proofs.LoadAccepted.{accepted-exactly, refused-by-lowest}
+use Rattle.guarantees.proofs.LoadAccepted.{accepted-exactly, load-number-exactly, load-refusal-keeps}
 use Rattle.guarantees.proofs.LoadBlind.{load-blind}
+use Rattle.guarantees.proofs.LoadSkips.{load-skips}
 use Rattle.guarantees.proofs.LoadLeaves.{load-leaves}
 use Rattle.guarantees.proofs.OneOrder.{one-order, one-start}
 use Rattle.guarantees.proofs.OnlyLoad.{only-load}
@@ -35,7 +42,7 @@ use Rattle.guarantees.proofs.RunZero.{leaf-in, run-zero}
 pub demand-1 : Demand1
 demand-1 =
     record {
-      load-refused = refused-by-lowest;
+      load-kept = load-refusal-keeps;
       run-refused = refused-exactly;
       run-kept = refusal-keeps;
       name-by-index = name-by-index;
@@ -52,20 +59,29 @@ demand-1 =
           let l = load-leaves file words words′ base exports exports′ a e z in
           (l .at, l .base-is, leaf-in (l .holding .slots .fits) (l .holding .zero));
       run-zero = run-zero;
+      room-is = room-is;
+      job-room-is = job-room-is;
+      job-words = job-words;
     }
 
 pub demand-2 : Demand2
 demand-2 =
     record {
       accepted = accepted-exactly;
-      refused = refused-by-lowest;
-      fits = fits-exactly;
-      only-load = only-load;
+      by-number = load-number-exactly;
       checked = checks.accepted-exactly;
+      check-by-number = number-exactly;
+      check-by-none = none-exactly;
+      sound-exactly = checks.sound-exactly;
       described = checks.described-exactly;
-      by-lowest = checks.refused-by-lowest;
-      by-number = number-exactly;
-      by-none = none-exactly;
+      skipped-unread = skipped-unread;
+      load-skips = load-skips;
+      big-endian = big-endian;
+      reads-children = reads-children;
+      hashed-bytes = hashed-bytes;
+      longest-nodes = checks.longest-nodes;
+      longest-reached = longest-reached;
+      only-load = only-load;
       only-check = checks.only-check;
       only-name = only-name;
       only-index = only-index;
@@ -107,6 +123,9 @@ demand-3 =
       done-stays = done-stays;
       session-blind = session-blind;
       jobs-sound = jobs-sound;
+      one-frame-list = one-frame-list;
+      done-exactly = done-exactly;
+      stops-exactly = stops-exactly;
       only-runs = only-runs;
       only-run = only-run;
     }

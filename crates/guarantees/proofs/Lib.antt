@@ -16,6 +16,7 @@ pub mod LoadedTable
 pub mod LoadVerdict
 pub mod LoadAccepted
 pub mod LoadBlind
+pub mod LoadSkips
 pub mod OneOrder
 pub mod LoadLeaves
 pub mod OneTable

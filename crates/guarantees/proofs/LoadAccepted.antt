@@ -1,5 +1,5 @@
--- A load is accepted exactly where no check holds, which is where the bundle is sound and fits; any other is refused by the lowest
--- number that applies.
+-- A load is accepted exactly where no check holds, which is where the bundle is sound and fits; any other is refused by the smallest
+-- number that applies, and keeps every word.
 use Prim.Native.Nat.{ℕ, _≤_, _<_}
 use mathlib.Core.Path.{_≡_, refl, sym, ap, _∙_}
 use mathlib.Core.List.{List, [], _∷_}
@@ -15,7 +15,7 @@ use Rattle.wire.proofs.Tests.{below-exactly}
 use Rattle.manifest.specs.Judged.{exportsOf}
 use Rattle.nodes.specs.Records.{nodesOf}
 use Rattle.bundle.specs.Directory.{manifestSection, nodesSection}
-use Rattle.bundle.specs.Checks.{Check, firstOf, headerChecks, directoryChecks, manifestChecks, nodeChecks, nameChecks, checks}
+use Rattle.bundle.specs.Checks.{Check, headerChecks, directoryChecks, manifestChecks, nodeChecks, nameChecks, checks}
 use Rattle.soundness.specs.Sound.{Sound}
 use Rattle.soundness.specs.Applies.{HasManifest, manifest, HasNodes, nodes, Applies, Smallest}
 use Rattle.soundness.proofs.ManifestMeaning.{reads-exports}
@@ -28,7 +28,7 @@ use Rattle.loader.specs.declared.LoadAnswer.the-variants.{Refused}
 use Rattle.loader.specs.Answer.{numbers}
 use Rattle.loader.specs.Load.{recordsIn, exportsIn, unfit, crowded, loadChecks, loadRefusal, Loaded, accept, acceptFrom, load}
 use Rattle.loader.proofs.Refusals.{load-ascends}
-use Rattle.guarantees.specs.Load.{Unfit, base-negative, Loadable, answerOf, AcceptedExactly, RefusedByLowest}
+use Rattle.guarantees.specs.Load.{Unfit, base-negative, Loadable, answerOf, AcceptedExactly, LoadNumberExactly, LoadRefusalKeeps}
 use Rattle.guarantees.specs.Load.{LoadApplies, of-file, unfit as at-21, crowded as at-22}
 use Rattle.guarantees.proofs.LoadVerdict.{fits-exactly, unrefused-exactly, load-unrefused, load-refused}
 
@@ -72,20 +72,20 @@ module _ (file w : List ℕ) (base : ℤ) (out : List ℕ) where
   accept-at n fits (negsuc b) e = absurd (fits (rw e base-negative))
   accept-at n fits (pos b) e = refl
 
-  accepted : answerOf (load file w base out) .number ≡ 0 → Loadable file w base out
-  accepted z =
-      elim (ℕ-discrete (loadRefusal file w base out) 0) [
-        | yes e ↦ unrefused-loadable e
-        | no n ↦ absurd (n (sym (ap (λ (l : Loaded). answerOf l .number) (load-refused file w base out n)) ∙ z))
-      ]
-
-  is-accepted : Loadable file w base out → answerOf (load file w base out) .number ≡ 0
-  is-accepted l =
-      rw (load-unrefused file w base out (loadable-unrefused l))
-      (accept-at (length (l .sound .nodes)) (l .fits) base refl)
+  -- the number that is answered
+  number-is : answerOf (load file w base out) .number ≡ loadRefusal file w base out
+  number-is = elim (ℕ-discrete (loadRefusal file w base out) 0) [
+    | yes e ↦
+        let l = unrefused-loadable e in
+        rw (load-unrefused file w base out e, e) (accept-at (length (l .sound .nodes)) (l .fits) base refl)
+    | no n ↦ ap (λ (l : Loaded). answerOf l .number) (load-refused file w base out n)
+  ]
 
 pub accepted-exactly : AcceptedExactly
-accepted-exactly file words base exports = (accepted file words base exports, is-accepted file words base exports)
+accepted-exactly file words base exports = (
+  λ z. unrefused-loadable file words base exports (sym (number-is file words base exports) ∙ z),
+  λ l. number-is file words base exports ∙ loadable-unrefused file words base exports l,
+)
 
 -- ---- the smallest number
 
@@ -106,10 +106,11 @@ module _ (file w : List ℕ) (base : ℤ) (out : List ℕ) where
   abbrev A : ℕ → Type 0
   A = LoadApplies file w base out
 
-  some-number : (n : ℕ) → A n → 0 < n
-  some-number n (of-file x) = bounds x .0
-  some-number _ (at-21 k u) = omega arith
-  some-number _ (at-22 k l) = omega arith
+  -- a number that applies is one of 1 to 22
+  load-bounds : {n : ℕ} → A n → (0 < n) × (n ≤ 22)
+  load-bounds (of-file x) = (bounds x .0, omega (arith, bounds x .1))
+  load-bounds (at-21 k u) = (omega arith, omega arith)
+  load-bounds (at-22 k l) = (omega arith, omega arith)
 
   -- a number up to 20 applies where it applies to the file
   file-applies : {n : ℕ} → n ≤ 20 → A n → Applies file n
@@ -158,27 +159,24 @@ module _ (file w : List ℕ) (base : ℤ) (out : List ℕ) where
   unfolding loadChecks checks nameChecks headerChecks directoryChecks manifestChecks nodeChecks
   load-all = omega arith
 
-  load-smallest : (firstOf (loadChecks file w base out) ≡ 0 → ⊥) →
-      Smallest A (firstOf (loadChecks file w base out)) × (firstOf (loadChecks file w base out) ≤ 22)
-  unfolding loadChecks checks nameChecks headerChecks directoryChecks manifestChecks nodeChecks
-  load-smallest n =
-      first-exactly A some-number (loadChecks file w base out) (load-ascends file w base out) load-all load-means _ .0 (refl, n)
+  pub smallest-exactly : (n : ℕ) → ((loadRefusal file w base out ≡ n) × (n ≡ 0 → ⊥)) ↔ Smallest A n
+  unfolding loadRefusal loadChecks checks nameChecks headerChecks directoryChecks manifestChecks nodeChecks
+  smallest-exactly n =
+      let first =
+      first-exactly A (λ k x. load-bounds x .0) (loadChecks file w base out) (load-ascends file w base out) load-all load-means n
+      in
+      (λ e. first .0 e .0, λ x. first .1 (x, load-bounds (x .applies) .1))
 
-pub refused-by-lowest : RefusedByLowest
-unfolding loadRefusal
-refused-by-lowest file words words′ base exports exports′ a e n =
-    elim (ℕ-discrete (loadRefusal file words base exports) 0) [
-      | yes z ↦
-          let q = accepted-exactly file words base exports .1 (unrefused-loadable file words base exports z) in
-          absurd (n (sym (ap (λ (l : Loaded). answerOf l .number) e) ∙ q))
-      | no d ↦
-          let f = sym (load-refused file words base exports d) ∙ e in
-          go (cc) (cc) (cc) (load-smallest file words base exports d)
-    ]
-  where
-    go : Refused (firstOf (loadChecks file words base exports)) ≡ a → words′ ≡ words → exports′ ≡ exports →
-        Smallest (LoadApplies file words base exports) (firstOf (loadChecks file words base exports)) ×
-        (firstOf (loadChecks file words base exports) ≤ 22) →
-        Smallest (LoadApplies file words base exports) (numbers a .number) × (numbers a .number ≤ 22)
-        × (numbers a .nodes ≡ 0) × (numbers a .exports ≡ 0) × (words′ ≡ words) × (exports′ ≡ exports)
-    go q p r l = rw (← q) (l .0, l .1, refl, refl, p, r)
+pub load-number-exactly : LoadNumberExactly load
+load-number-exactly file words base exports n =
+    rw (number-is file words base exports) (smallest-exactly file words base exports n)
+
+pub load-refusal-keeps : LoadRefusalKeeps load
+load-refusal-keeps file words words′ base exports exports′ a e n =
+    let r = loadRefusal file words base exports in
+    let q : numbers a .number ≡ r = sym (ap (λ (l : Loaded). answerOf l .number) e) ∙ number-is file words base exports in
+    let d : r ≡ 0 → ⊥ = λ z. n (q ∙ z) in
+    let f = sym (load-refused file words base exports d) ∙ e in
+    let g : Refused r ≡ a = cc in
+    let most = load-bounds file words base exports (smallest-exactly file words base exports r .0 (refl, d) .applies) .1 in
+    (r, most, rw (← g), cc, cc)

@@ -1,5 +1,5 @@
 -- How a load is judged: which of its checks hold, and what it comes to.
-use Prim.Native.Nat.{ℕ, _≤_}
+use Prim.Native.Nat.{ℕ, _≤_, _<_}
 use mathlib.Core.Path.{_≡_, refl}
 use mathlib.Core.Bool.{Bool, true, false, cond}
 use mathlib.Core.List.{List}
@@ -17,7 +17,7 @@ use Rattle.loader.specs.declared.LoadAnswer.the-variants.{Refused}
 use Rattle.loader.specs.Load.{recordsIn, exportsIn, unfit, crowded, loadChecks, loadRefusal, loaded, acceptFrom, load}
 use Rattle.loader.proofs.Fitting.{fit-room}
 use Rattle.loader.proofs.Refusals.{all-clear}
-use Rattle.guarantees.specs.Load.{Unfit, base-negative, base-past, small-room, FitsExactly}
+use Rattle.guarantees.specs.Load.{Unfit, base-negative, base-past, small-room}
 
 -- ---- 21 and 22
 
@@ -42,7 +42,9 @@ is-unfit w _ n (small-room {b = b} h) = rw (lt-ltb (room (drop b w)) n h) (go (l
     go true = refl
     go false = refl
 
-pub fits-exactly : FitsExactly
+-- the tests of 21 and 22 say just this
+pub fits-exactly : (words exports : List ℕ) (base : ℤ) (nodes asked : ℕ) →
+    ((unfit words base nodes ≡ true) ↔ Unfit words nodes base) × ((crowded exports asked ≡ true) ↔ (length exports < asked))
 unfolding crowded
 fits-exactly words exports base nodes asked =
     ((unfit-is words base nodes, is-unfit words base nodes), (ltb-true (length exports) asked, lt-ltb (length exports) asked))

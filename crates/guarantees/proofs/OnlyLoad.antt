@@ -3,18 +3,18 @@
 use Prim.Native.Nat.{ℕ, _<_}
 use mathlib.Core.Path.{_≡_, refl, sym, ap, _∙_}
 use mathlib.Core.List.{List}
-use mathlib.Core.Logic.{_↔_}
+use mathlib.Core.Logic.{Iff·rfl}
 use native.Mathlib.Omega.{arith}
 use native.Mathlib.Decide.{ℕ-discrete}
-use Rattle.soundness.proofs.Smallest.{one-smallest}
+use Rattle.soundness.proofs.Smallest.{one-number}
 use Rattle.loader.specs.declared.LoadAnswer.{LoadAnswer}
 use Rattle.loader.specs.declared.LoadAnswer.the-variants.{Refused, Accepted}
 use Rattle.loader.specs.Answer.{Numbers, numbers}
 use Rattle.loader.specs.Load.{Loaded, loaded, load}
-use Rattle.guarantees.specs.Load.{Loadable, OnlyLoad}
-use Rattle.guarantees.proofs.LoadAccepted.{accepted-exactly, refused-by-lowest}
+use Rattle.guarantees.specs.Load.{answerOf, OnlyLoad}
+use Rattle.guarantees.proofs.LoadAccepted.{load-number-exactly, load-refusal-keeps}
 use Rattle.guarantees.proofs.LoadLeaves.{load-leaves}
-use Rattle.guarantees.proofs.OneLoad.{same-three, one-load}
+use Rattle.guarantees.proofs.OneLoad.{one-load}
 
 -- an answer is known by its numbers: an accepted load has nodes
 one-answer : (a b : LoadAnswer) → (numbers a .number ≡ 0 → 0 < numbers a .nodes) → numbers a ≡ numbers b → a ≡ b
@@ -26,24 +26,23 @@ one-answer (Accepted j k) (Accepted i h) some e =
     cc (ap (λ (x : Numbers). x .nodes) e, ap (λ (x : Numbers). x .exports) e)
 
 pub only-load : OnlyLoad
-only-load call accepts refuses leaves file words base exports =
+only-load call exactly keeps leaves file words base exports =
     go (call file words base exports) refl (load file words base exports) refl
+    (one-number (λ n. Iff·rfl) (exactly file words base exports) (load-number-exactly file words base exports))
   where
-    go : (x : Loaded) → call file words base exports ≡ x → (y : Loaded) → load file words base exports ≡ y → x ≡ y
-    go (loaded w e a) p (loaded v o b) q =
-        let loadable = Loadable file words base exports in
-        let other : (numbers a .number ≡ 0) ↔ loadable = rw p at (accepts file words base exports) in
-        let mine : (numbers b .number ≡ 0) ↔ loadable = rw q at (accepted-exactly file words base exports) in
+    go : (x : Loaded) → call file words base exports ≡ x → (y : Loaded) → load file words base exports ≡ y →
+        answerOf (call file words base exports) .number ≡ answerOf (load file words base exports) .number → x ≡ y
+    go (loaded w e a) p (loaded v o b) q same =
+        let one : numbers a .number ≡ numbers b .number = rw (p, q) at same in
         elim (ℕ-discrete (numbers a .number) 0) [
           | yes z ↦
               let l = leaves file words w base exports e a p z in
-              let (x, y, n) = one-load l (load-leaves file words v base exports o b q (mine .1 (other .0 z))) in
+              let (x, y, n) = one-load l (load-leaves file words v base exports o b q (sym one ∙ z)) in
               λ i. loaded (x i) (y i) (one-answer a b (λ _. l .holding .some) n i)
           | no d ↦
-              let (k, _, f, g, x, y) = refuses file words w base exports e a p d in
-              let (m, _, h, i, s, t)
-              = refused-by-lowest file words v base exports o b q (λ z. d (other .1 (mine .0 z)))
-              in
-              let n : numbers a ≡ numbers b = same-three (one-smallest k m) (f ∙ sym h) (g ∙ sym i) in
+              let (i, _, f, x, y) = keeps file words w base exports e a p d in
+              let (k, _, g, s, t) = load-refusal-keeps file words v base exports o b q (λ z. d (one ∙ z)) in
+              let m : i ≡ k = cc in
+              let n : numbers a ≡ numbers b = f ∙ rw m (sym g) in
               λ j. loaded ((x ∙ sym s) j) ((y ∙ sym t) j) (one-answer a b (λ z. absurd (d z)) n j)
         ]

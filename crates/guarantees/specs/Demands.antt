@@ -7,33 +7,41 @@ use mathlib.Core.List.{List}
 use lib.ListN.{drop}
 use lib.IntN.{ℤ, pos}
 use Rattle.calculus.specs.Tree.{leaf}
-use Rattle.table.specs.Slots.{room}
+use Rattle.calculus.specs.Laws as machine
+use Rattle.table.specs.Slots.{room, RoomIs}
+use Rattle.table.specs.Frames.{JobRoomIs, JobWords}
 use Rattle.table.specs.Holds.{Holds}
+use Rattle.table.specs.SoundFrames.{OneFrameList}
 use Rattle.engine.specs.declared.RunAnswer.{RunAnswer}
 use Rattle.engine.specs.Run.{ran, run}
 use Rattle.engine.specs.Answer as engine
 use Rattle.soundness.specs.Meaning as checks
+use Rattle.bundle.specs.Checks.{refusal}
 use Rattle.soundness.specs.Applies.{NumberExactly, NoneExactly}
 use Rattle.bundle.specs.Exports.{namePart}
 use Rattle.soundness.specs.ExportCalls.{NameByIndex, NameRefused, NameBytes, NameInFile, OnlyName}
 use Rattle.soundness.specs.ExportCalls.{index, IndexByName, NoSuchName, EmptyName, IndexRefused, OnlyIndex}
+use Rattle.soundness.specs.Skipped.{SkippedUnread}
+use Rattle.soundness.specs.FileMeaning.{BigEndian}
+use Rattle.soundness.specs.NodesMeaning.{ReadsChildren, HashedBytes, LongestReached}
 use Rattle.loader.specs.declared.LoadAnswer.{LoadAnswer}
 use Rattle.loader.specs.Answer.{numbers}
 use Rattle.loader.specs.Load.{loaded, load}
 use Rattle.guarantees.specs.Run.{RunCall, started, RefusalKeeps, RefusedExactly, JobsSound, BaseBlind, DoneStays}
 use Rattle.guarantees.specs.OnlyRun.{OnlyRun, SameAll}
 use Rattle.guarantees.specs.Session.{Request, Bring, Table, AllAlike, SessionBlind}
-use Rattle.guarantees.specs.Load.{FitsExactly, AcceptedExactly, RefusedByLowest, OnlyLoad}
-use Rattle.guarantees.specs.Load.{Loads, OneOrder, OneStart, LoadBlind}
+use Rattle.guarantees.specs.Load.{AcceptedExactly, LoadNumberExactly, LoadRefusalKeeps, OnlyLoad}
+use Rattle.guarantees.specs.Load.{Loads, OneOrder, OneStart, LoadBlind, LoadSkips}
 
 -- slot zero of the table from the base on, a slot in its room, holds the leaf
 abbrev pub ZeroIsLeaf : ℤ → List ℕ → Type 0
 ZeroIsLeaf base words = (b : ℕ) × (base ≡ pos b) × Holds (drop b words) (room (drop b words)) 0 leaf
 
--- 1. Any bytes, any slot, any table.
+-- 1. Any bytes, any slot, any table: every public call answers bad input with a number from the written list, a refusal changes
+-- no lent word, and nothing before our part of the table is written or looked at.
 pub record Demand1 : Type 0 where
   -- bad input is answered with a number from the list, and a refusal changes no lent word
-  pub load-refused : RefusedByLowest
+  pub load-kept : LoadRefusalKeeps load
   pub run-refused : RefusedExactly
   pub run-kept : RefusalKeeps
   -- a call asked for a name answers the part of the file that it is, (0, 0) by 1 to 14 or where there is no such index
@@ -54,23 +62,35 @@ pub record Demand1 : Type 0 where
       load file words base exports ≡ loaded words′ exports′ a → numbers a .number ≡ 0 → ZeroIsLeaf base words′
   pub run-zero : (words words′ jobs jobs′ : List ℕ) (base f x : ℤ) (used fuel : ℕ) (a : RunAnswer) →
       run words base f x used fuel jobs ≡ ran words′ jobs′ a → started (engine.numbers a) ≡ true → ZeroIsLeaf base words′
+  -- the room of the two tables, and where a job stands
+  pub room-is : RoomIs
+  pub job-room-is : JobRoomIs
+  pub job-words : JobWords
 
 -- 2. A bundle is accepted exactly when it is within the limits, fits the lent tables and is sound by the format, the digests and
 -- the node hashes. Otherwise the answer is the lowest number that applies.
 pub record Demand2 : Type 0 where
+  -- of the load
   pub accepted : AcceptedExactly
-  pub refused : RefusedByLowest
-  pub fits : FitsExactly
-  -- nothing is left open: no other call keeps these promises and leaves the bundle's trees
-  pub only-load : OnlyLoad
-  -- the same of the check alone, 1 to 20, and of the names, 1 to 14
+  pub by-number : LoadNumberExactly load
+  -- of the check alone, 1 to 20; sound is that none of these applies, described that none of 1 to 14 does
   pub checked : checks.AcceptedExactly
+  pub check-by-number : NumberExactly refusal
+  pub check-by-none : NoneExactly refusal
+  pub sound-exactly : checks.SoundExactly
   pub described : checks.DescribedExactly
-  pub by-lowest : checks.RefusedByLowest
-  pub by-number : NumberExactly
-  pub by-none : NoneExactly
+  -- a section of any other type is skipped unread
+  pub skipped-unread : SkippedUnread
+  pub load-skips : LoadSkips
+  -- numbers are big-endian; what a payload names is read; how much is hashed of it; how long the nodes section can be
+  pub big-endian : BigEndian
+  pub reads-children : ReadsChildren
+  pub hashed-bytes : HashedBytes
+  pub longest-nodes : checks.LongestNodes
+  pub longest-reached : LongestReached
+  -- nothing is left open: no other call keeps these promises and, where it is a load, leaves the bundle's trees
+  pub only-load : OnlyLoad
   pub only-check : checks.OnlyCheck
-  -- and of the two calls on exports
   pub only-name : OnlyName
   pub only-index : OnlyIndex
 
@@ -105,8 +125,12 @@ pub record Demand3 : Type 0 where
   pub done-stays : DoneStays
   -- whatever the receiver writes before the base meanwhile, the runs go the same
   pub session-blind : SessionBlind
-  -- the jobs that a run leaves are sound
+  -- the jobs that a run leaves are sound, and sound jobs stand for one list of frames
   pub jobs-sound : JobsSound
+  pub one-frame-list : OneFrameList
+  -- the machine is done just where the seven rules say so, and stops just where document 01 says
+  pub done-exactly : machine.DoneExactly
+  pub stops-exactly : machine.StopsExactly
   -- nothing is left open but which of two slots with one tree is named: no other call keeps these promises, neither of all
   -- lists nor of single calls
   pub only-runs : OnlyRuns

@@ -1,7 +1,6 @@
 -- What the load call guarantees. The proofs are in proofs/, a file for each statement.
 use Prim.Native.Nat.{ℕ, _≤_, _<_}
 use mathlib.Core.Path.{_≡_}
-use mathlib.Core.Bool.{true}
 use mathlib.Core.List.{List, []}
 use mathlib.Core.Logic.{_↔_}
 use lib.ListN.{length, getD, take, drop}
@@ -15,9 +14,10 @@ use Rattle.soundness.specs.Graph.{Names}
 use Rattle.soundness.specs.Sound.{Sound}
 use Rattle.soundness.specs.ManifestGrammar.{Contents}
 use Rattle.soundness.specs.Applies.{HasManifest, HasNodes, Applies, Smallest}
+use Rattle.soundness.specs.Skipped.{ReadAlike}
 use Rattle.loader.specs.declared.LoadAnswer.{LoadAnswer}
 use Rattle.loader.specs.Answer.{Numbers, numbers}
-use Rattle.loader.specs.Load.{unfit as unfitTest, crowded as crowdedTest, Loaded, loaded, load}
+use Rattle.loader.specs.Load.{Loaded, loaded, load}
 use Rattle.guarantees.specs.Order.{Order, TreesOf}
 use Rattle.guarantees.specs.Run.{SameFrom, beforeBase}
 use Rattle.guarantees.specs.Session.{Holding}
@@ -29,12 +29,6 @@ pub data Unfit (words : List ℕ) (nodes : ℕ) : ℤ → Type 0 where
   base-negative : {b : ℕ} → Unfit words nodes (negsuc b)
   base-past : {b : ℕ} → length words < b → Unfit words nodes (pos b)
   small-room : {b : ℕ} → room (drop b words) < nodes → Unfit words nodes (pos b)
-
--- the tests of 21 and 22 say just this
-abbrev pub FitsExactly : Type 0
-FitsExactly =
-    (words exports : List ℕ) (base : ℤ) (nodes asked : ℕ) →
-    ((unfitTest words base nodes ≡ true) ↔ Unfit words nodes base) × ((crowdedTest exports asked ≡ true) ↔ (length exports < asked))
 
 -- a sound bundle, within the limits, that fits the lent tables
 pub record Loadable (file words : List ℕ) (base : ℤ) (exports : List ℕ) : Type 0 where
@@ -66,16 +60,19 @@ AcceptsExactly call =
 abbrev pub AcceptedExactly : Type 0
 AcceptedExactly = AcceptsExactly load
 
--- Any other is answered by the smallest number that applies, one of the list, with every other number 0; and no word is changed.
-abbrev pub RefusesByLowest : LoadCall → Type 0
-RefusesByLowest call =
+-- A load answers n, and not 0, exactly where n is the smallest number that applies to it.
+abbrev pub LoadNumberExactly : LoadCall → Type 0
+LoadNumberExactly call =
+    (file words : List ℕ) (base : ℤ) (exports : List ℕ) (n : ℕ) →
+    ((answerOf (call file words base exports) .number ≡ n) × (n ≡ 0 → ⊥)) ↔ Smallest (LoadApplies file words base exports) n
+
+-- A refusal answers a number of the list, 1 to 22, with every other number 0, and changes no word.
+abbrev pub LoadRefusalKeeps : LoadCall → Type 0
+LoadRefusalKeeps call =
     (file words words′ : List ℕ) (base : ℤ) (exports exports′ : List ℕ) (a : LoadAnswer) →
     call file words base exports ≡ loaded words′ exports′ a → (numbers a .number ≡ 0 → ⊥) →
-    Smallest (LoadApplies file words base exports) (numbers a .number) × (numbers a .number ≤ 22)
-    × (numbers a .nodes ≡ 0) × (numbers a .exports ≡ 0) × (words′ ≡ words) × (exports′ ≡ exports)
-
-abbrev pub RefusedByLowest : Type 0
-RefusedByLowest = RefusesByLowest load
+    (n : ℕ) × (n ≤ 22) × (numbers a ≡ record { number = n; nodes = 0; exports = 0 })
+    × (words′ ≡ words) × (exports′ ≡ exports)
 
 -- ---- what an accepted load leaves
 
@@ -136,7 +133,7 @@ OneStart =
 -- that refuses everything, gives one fixed answer, puts a tree into another slot or writes a word more breaks one of them.
 abbrev pub OnlyLoad : Type 0
 OnlyLoad =
-    (call : LoadCall) → AcceptsExactly call → RefusesByLowest call → LeavesTrees call →
+    (call : LoadCall) → LoadNumberExactly call → LoadRefusalKeeps call → LeavesTrees call →
     (file words : List ℕ) (base : ℤ) (exports : List ℕ) → call file words base exports ≡ load file words base exports
 
 -- ---- the words before the base
@@ -154,3 +151,11 @@ LoadBlind =
     (file w w′ exports : List ℕ) (base : ℤ) →
     SameFrom base w w′ →
     SameLoad base w w′ (load file w base exports) (load file w′ base exports)
+
+-- ---- the sections of other types
+
+-- What is not read of a file changes nothing: two files alike in all that is read are loaded alike.
+abbrev pub LoadSkips : Type 0
+LoadSkips =
+    (file other words : List ℕ) (base : ℤ) (exports : List ℕ) → ReadAlike file other →
+    load file words base exports ≡ load other words base exports

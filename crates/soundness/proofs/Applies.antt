@@ -124,14 +124,14 @@ module _ (file : List ℕ) where
   unfolding checks nameChecks headerChecks directoryChecks manifestChecks nodeChecks
   checks-all = omega arith
 
-pub number-exactly : NumberExactly
+pub number-exactly : NumberExactly refusal
 unfolding refusal checks nameChecks headerChecks directoryChecks manifestChecks nodeChecks
 number-exactly file n =
     let first =
     first-exactly (Applies file) (λ k x. bounds x .0) (checks file) (ascending file) (checks-all file) (all-means file) n in
     (λ e. first .0 e .0, λ x. first .1 (x, bounds (x .applies) .1))
 
-pub none-exactly : NoneExactly
+pub none-exactly : NoneExactly refusal
 unfolding refusal checks nameChecks headerChecks directoryChecks manifestChecks nodeChecks
 none-exactly file =
     let first =

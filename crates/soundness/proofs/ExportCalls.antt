@@ -35,12 +35,12 @@ use Rattle.soundness.proofs.Each.{each-exactly}
 use Rattle.soundness.proofs.Sections.{section-only, section-start, single-manifest, described-manifest}
 use Rattle.soundness.proofs.Calls.{names-length, found-there, name-read, part-inside, index-asked, asked-name}
 use Rattle.soundness.proofs.ExportPlaces.{Stands, stands, stands-none}
-use Rattle.soundness.proofs.Meaning.{described-exactly}
+use Rattle.soundness.proofs.Meaning.{unrefused-described}
 
 -- a described file is not refused by 1 to 14, and its exports are read
 module _ (file : List ℕ) (d : Described file) where
   fine : nameRefusal file ≡ 0
-  fine = described-exactly file .1 d
+  fine = unrefused-described file .1 d
 
   read : exportsOf (manifestSection file) ≡ d .manifest .exports
   read = reads-exports (manifestSection file) (d .manifest) (described-manifest d)
@@ -63,8 +63,9 @@ before-long (before-export h n e) (before-export h′ n′ e′) =
 one-part : {file : List ℕ} → Described file → {m : Contents} {i : ℕ} {name : List ℕ} {p q : Part} →
     IsNamePart file m i name p → IsNamePart file m i name q → p ≡ q
 one-part {file} d {name = name} (name-part b m after k) (name-part c n after′ j) =
-    let start = section-start file 1 (single-manifest d) in
-    ap (λ (x : ℕ). record { start = x; size = length name }) (omega (arith, start _ k, start _ j, before-long b c))
+    let once = single-manifest d in
+    ap (λ (x : ℕ). record { start = x; size = length name })
+    (omega (arith, section-start file 1 once k, section-start file 1 once j, before-long b c))
 
 -- it is known by its numbers
 part-as : {file : List ℕ} {m : Contents} {i : ℕ} {name : List ℕ} {p : Part} → IsNamePart file m i name p →
@@ -89,7 +90,7 @@ module _ (file : List ℕ) (d : Described file) (i : ℕ) where
       let size = subst (λ (b : List ℕ). Number 4 (length b) (x .size)) text (x .is-size) in
       rw (fine file d, x .is-place)
       (part-as (name-part (x .is-before) size (x .after) section)
-      (omega (arith, section-start file 1 (single-manifest d) _ section, x .long))
+      (omega (arith, section-start file 1 (single-manifest d) section, x .long))
       (ap length (sym text) ∙ sym (x .counts)))
 
   part-none : length (d .manifest .exports) ≤ i → namePart file i ≡ record { start = 0; size = 0 }
@@ -116,7 +117,7 @@ name-in-file = part-inside
 pub only-name : OnlyName
 only-name call by-index refused file i = elim (ℕ-discrete (nameRefusal file) 0) [
   | yes e ↦
-      let d = described-exactly file .0 e in
+      let d = unrefused-described file .0 e in
       elim (decLt i (length (d .manifest .exports))) [
         | yes h ↦ one-part d (by-index file d i .0 h) (name-by-index file d i .0 h)
         | no h ↦
@@ -185,7 +186,7 @@ only-asked call by-name no-such empty file d (b ∷ bs) = go (indexOf (b ∷ bs)
 
 pub only-index : OnlyIndex
 only-index call by-name no-such empty refused file name = elim (ℕ-discrete (nameRefusal file) 0) [
-  | yes e ↦ only-asked call by-name no-such empty file (described-exactly file .0 e) name
+  | yes e ↦ only-asked call by-name no-such empty file (unrefused-described file .0 e) name
   | no z ↦
       let (n, h) = refused-by file z in
       refused file name _ n h ∙ sym (index-refused file name _ n h)
@@ -214,7 +215,7 @@ pub index-below : IndexBelow
 unfolding indexCall
 index-below file name = elim (ℕ-discrete (nameRefusal file) 0) [
   | yes e ↦
-      let d = described-exactly file .0 e in
+      let d = unrefused-described file .0 e in
       let h = index-within file d name in
       let most = few-exports (d .is-manifest) in
       omega (arith, h, most)

@@ -1,14 +1,21 @@
 -- What is read of a file is what it has: proofs of specs/FileMeaning.antt.
 use Prim.Native.Nat.{_+_, _*_, _≤_}
-use mathlib.Core.Path.{_≡_, sym, ap, subst, _∙_}
-use mathlib.Core.List.{List}
+use mathlib.Core.Path.{_≡_, refl, sym, ap, subst, _∙_}
+use mathlib.Core.List.{List, [], _∷_}
+use native.Mathlib.Omega.{arith}
 use lib.ListN.{length}
+use Rattle.wire.specs.Wire.{bigEndian}
+use Rattle.wire.proofs.Numbers.{big-endian-append}
 use Rattle.bundle.specs.Header.{sectionCount, directoryOffset}
 use Rattle.soundness.specs.FileGrammar.{Header, HasHeader, Entry, HasDirectory}
-use Rattle.soundness.specs.FileMeaning.{HeaderExactly, OneHeader, ReadsHeader, DirectoryExactly, OneDirectory}
+use Rattle.soundness.specs.FileMeaning.{BigEndian, HeaderExactly, OneHeader, ReadsHeader, DirectoryExactly, OneDirectory}
 use Rattle.soundness.specs.FileMeaning.{SectionExactly, OneSection}
 use Rattle.soundness.proofs.FileFormat.{readHeader, readDirectory, one-header, has-header, one-directory, has-directory}
 use Rattle.soundness.proofs.FileFormat.{one-section, has-section}
+
+pub big-endian : BigEndian
+unfolding bigEndian
+big-endian = (refl, λ b x. rw (big-endian-append b (x ∷ [])) (omega arith))
 
 pub header-exactly : HeaderExactly
 header-exactly file = (λ h. (_, has-header file h), λ k. one-header (k .1) .1)

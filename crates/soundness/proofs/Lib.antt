@@ -30,3 +30,4 @@ pub mod Applies
 pub mod Meaning
 pub mod ExportPlaces
 pub mod ExportCalls
+pub mod Skipped

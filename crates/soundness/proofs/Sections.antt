@@ -18,6 +18,12 @@ use Rattle.soundness.proofs.Mirror.{once-mirrored, entry-mirrored, sect
 use Rattle.soundness.proofs.Directory.{Inside, All}
 
 module _ (file : List ℕ) (kind : ℕ) (once : OccursAgain kind (readDirectory file) → ⊥) where
+  -- where it starts
+  pub section-start : {s : List ℕ} (k : SectionOf file kind s) → entryOf kind (entries file) .offset ≡ k .entry .offset
+  section-start k =
+      entry-mirrored file kind (k .entry) (of-directory (Among (k .entry)) (k .has-directory) (k .listed)) (k .of-kind)
+      (once-mirrored file kind .1 once) .0
+
   pub section-only : (s : List ℕ) → SectionOf file kind s → section file kind ≡ s
   section-only s k =
       let e = k .entry in
@@ -25,11 +31,6 @@ module _ (file : List ℕ) (kind : ℕ) (once : OccursAgain kind (readDirectory 
       section-mirrored file kind e a (k .of-kind) (once-mirrored file kind .1 once) ∙ one-section (k .is-section) .1
 
   -- where it starts
-  pub section-start : (s : List ℕ) (k : SectionOf file kind s) → entryOf kind (entries file) .offset ≡ k .entry .offset
-  section-start s k =
-      let a = of-directory (Among (k .entry)) (k .has-directory) (k .listed) in
-      entry-mirrored file kind (k .entry) a (k .of-kind) (once-mirrored file kind .1 once) .0
-
   pub section-read : HasDirectory (readHeader file) (readDirectory file) file → All file (Inside file) →
       Occurs kind (readDirectory file) → SectionOf file kind (section file kind)
   section-read dir inside (e, a, k) = record {

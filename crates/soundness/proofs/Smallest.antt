@@ -3,7 +3,7 @@ use Prim.Native.Nat.{ℕ, suc, _+_, _≤_, _<_}
 use mathlib.Core.Path.{_≡_, refl, sym, subst, _∙_}
 use mathlib.Core.List.{List, [], _∷_, _++_}
 use mathlib.Core.Bool.{Bool, true, false}
-use mathlib.Core.Logic.{_↔_, Iff·trans}
+use mathlib.Core.Logic.{_↔_, Iff·trans, Iff·symm}
 use native.Mathlib.Omega.{arith}
 use native.Mathlib.Decide.{ℕ-discrete, decLt}
 use lib.ListN.{length}
@@ -33,6 +33,24 @@ one-smallest {n = n} {m = m} l k =
         | no g ↦ omega (arith, h, g)
       ]
     ]
+
+-- where two things apply alike, the smallest number is the same
+smallest-to : {A B : ℕ → Type 0} {n : ℕ} → ((m : ℕ) → A m ↔ B m) → Smallest A n → Smallest B n
+smallest-to {n = n} f s = record { applies = f n .0 (s .applies); smallest = λ m l x. s .smallest m l (f m .1 x) }
+
+pub smallest-alike : {A B : ℕ → Type 0} → ((n : ℕ) → A n ↔ B n) → (n : ℕ) → Smallest A n ↔ Smallest B n
+smallest-alike f n = (smallest-to f, smallest-to (λ m. Iff·symm (f m)))
+
+-- two answers are one where, but for 0, they are exactly what is so
+pub one-number : {S T : ℕ → Type 0} {a b : ℕ} → ((n : ℕ) → S n ↔ T n) →
+    ((n : ℕ) → ((a ≡ n) × (n ≡ 0 → ⊥)) ↔ S n) → ((n : ℕ) → ((b ≡ n) × (n ≡ 0 → ⊥)) ↔ T n) → a ≡ b
+one-number {a = a} {b = b} same f g = elim (ℕ-discrete a 0) [
+  | no k ↦ sym (g a .1 (same a .0 (f a .0 (refl, k))) .0)
+  | yes e ↦ elim (ℕ-discrete b 0) [
+    | no k ↦ f b .1 (same b .1 (g b .0 (refl, k))) .0
+    | yes q ↦ e ∙ sym q
+  ]
+]
 
 -- the rows mean another thing that applies where it does
 pub means-map : (A B : ℕ → Type 0) (cs : List Check) → ((c : Check) → Among c cs → A (c .number) ↔ B (c .number)) →

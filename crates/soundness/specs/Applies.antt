@@ -1,6 +1,6 @@
 -- Document 01's table of refusals, in its words and over what the bytes are: when a number applies to a file. A row speaks of the
 -- header, the entries, the manifest and the nodes that the file has: where it has none, a smaller number applies. And what the
--- answer of the checks is: the smallest number that applies. The proofs are in proofs/Applies.antt.
+-- answer of a check is: the smallest number that applies. The proofs are in proofs/Applies.antt.
 use Prim.Native.Nat.{ℕ, _+_, _*_, _%_, _≤_, _<_}
 use mathlib.Core.Path.{_≡_}
 use mathlib.Core.List.{List, []}
@@ -11,7 +11,7 @@ use Rattle.wire.specs.Relations.{Among, Distinct}
 use Rattle.sha256_block.specs.Fips180.{sha256}
 use Rattle.manifest.specs.Content.{Root, Export, names}
 use Rattle.nodes.specs.Records.{Node, hashes}
-use Rattle.bundle.specs.Checks.{nameRefusal, refusal}
+use Rattle.bundle.specs.Checks.{nameRefusal}
 use Rattle.soundness.specs.FileGrammar.{
   Header,
   HasHeader,
@@ -98,13 +98,13 @@ pub record Smallest (A : ℕ → Type 0) (n : ℕ) : Type 0 where
   pub applies : A n
   pub smallest : (m : ℕ) → m < n → A m → ⊥
 
--- the checks answer n, and not 0, exactly where n is the smallest number that applies
-abbrev pub NumberExactly : Type 0
-NumberExactly = (file : List ℕ) (n : ℕ) → ((refusal file ≡ n) × (n ≡ 0 → ⊥)) ↔ Smallest (Applies file) n
+-- a check answers n, and not 0, exactly where n is the smallest number that applies
+abbrev pub NumberExactly : (List ℕ → ℕ) → Type 0
+NumberExactly call = (file : List ℕ) (n : ℕ) → ((call file ≡ n) × (n ≡ 0 → ⊥)) ↔ Smallest (Applies file) n
 
--- and they answer 0 exactly where none applies
-abbrev pub NoneExactly : Type 0
-NoneExactly = (file : List ℕ) → (refusal file ≡ 0) ↔ ((n : ℕ) → Applies file n → ⊥)
+-- and it answers 0 exactly where none applies
+abbrev pub NoneExactly : (List ℕ → ℕ) → Type 0
+NoneExactly call = (file : List ℕ) → (call file ≡ 0) ↔ ((n : ℕ) → Applies file n → ⊥)
 
 -- the same of the checks 1 to 14
 abbrev pub NameNumberExactly : Type 0

@@ -1,11 +1,16 @@
 -- What is read of a file is what it has, and it has just one of each. The proofs are in proofs/FileMeaning.antt.
 use Prim.Native.Nat.{ℕ, _+_, _*_, _≤_}
 use mathlib.Core.Path.{_≡_}
-use mathlib.Core.List.{List}
+use mathlib.Core.List.{List, [], _∷_, _++_}
 use mathlib.Core.Logic.{_↔_}
 use lib.ListN.{length}
+use Rattle.wire.specs.Wire.{bigEndian}
 use Rattle.bundle.specs.Header.{sectionCount, directoryOffset}
 use Rattle.soundness.specs.FileGrammar.{Header, HasHeader, Entry, HasDirectory, IsSection}
+
+-- "Numbers in a bundle are big-endian": with a byte more at the end a number is 256 times as much, and the byte
+abbrev pub BigEndian : Type 0
+BigEndian = (bigEndian [] ≡ 0) × ((b : List ℕ) (x : ℕ) → bigEndian (b ++ (x ∷ [])) ≡ 256 * bigEndian b + x)
 
 -- a file has a header where it is long enough, and just one
 abbrev pub HeaderExactly : Type 0

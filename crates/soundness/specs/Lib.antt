@@ -7,5 +7,6 @@ pub mod FileGrammar
 pub mod FileMeaning
 pub mod Sound
 pub mod Applies
+pub mod Skipped
 pub mod Meaning
 pub mod ExportCalls

@@ -1,40 +1,34 @@
 -- What the answers of the checks mean. The proofs are in proofs/Meaning.antt.
 use Prim.Native.Nat.{ℕ, _≤_}
 use mathlib.Core.Path.{_≡_}
-use mathlib.Core.Logic.{_↔_, _⊎_}
+use mathlib.Core.Logic.{_↔_}
 use mathlib.Core.List.{List}
 use lib.ListN.{length}
 use Rattle.wire.specs.Relations.{Among}
 use Rattle.calculus.specs.Tree.{Tree}
 use Rattle.nodes.specs.Records.{Node}
 use Rattle.soundness.specs.Graph.{Names}
-use Rattle.bundle.specs.Checks.{nameRefusal, refusal}
+use Rattle.bundle.specs.Checks.{refusal}
 use Rattle.soundness.specs.Sound.{Described, Sound}
-use Rattle.soundness.specs.Applies.{Applies, Smallest}
+use Rattle.soundness.specs.Applies.{Applies, NumberExactly}
 
--- the checks 1 to 14 answer 0 exactly for a described file, the checks 1 to 20 exactly for a sound one
+-- a file is described exactly where none of 1 to 14 applies, and sound exactly where none of 1 to 20 does
 abbrev pub DescribedExactly : Type 0
-DescribedExactly = (file : List ℕ) → (nameRefusal file ≡ 0) ↔ Described file
+DescribedExactly = (file : List ℕ) → Described file ↔ ((n : ℕ) → n ≤ 14 → Applies file n → ⊥)
 
+abbrev pub SoundExactly : Type 0
+SoundExactly = (file : List ℕ) → Sound file ↔ ((n : ℕ) → Applies file n → ⊥)
+
+-- the check accepts exactly the sound files
 abbrev pub AcceptsExactly : (List ℕ → ℕ) → Type 0
 AcceptsExactly call = (file : List ℕ) → (call file ≡ 0) ↔ Sound file
 
 abbrev pub AcceptedExactly : Type 0
 AcceptedExactly = AcceptsExactly refusal
 
--- any other file is answered by the smallest number that applies
-abbrev pub RefusedByLowest : Type 0
-RefusedByLowest =
-    (file : List ℕ) →
-    ((nameRefusal file ≡ 0) ⊎ Smallest (Applies file) (nameRefusal file)) ×
-    ((refusal file ≡ 0) ⊎ Smallest (Applies file) (refusal file))
-
--- nothing is left open: a check that accepts exactly the sound files and answers any other by the smallest number is this one
+-- nothing is left open: a check that answers by the smallest number that applies is this one
 abbrev pub OnlyCheck : Type 0
-OnlyCheck =
-    (call : List ℕ → ℕ) → AcceptsExactly call →
-    ((file : List ℕ) → (call file ≡ 0) ⊎ Smallest (Applies file) (call file)) →
-    (file : List ℕ) → call file ≡ refusal file
+OnlyCheck = (call : List ℕ → ℕ) → NumberExactly call → (file : List ℕ) → call file ≡ refusal file
 
 -- in a sound file the hash of every record names exactly one tree
 abbrev pub OneTreeEach : Type 0

@@ -1,0 +1,26 @@
+-- "Any other type is skipped unread when not critical", over values: whatever its bytes are, the answers are the same. The proofs
+-- are in proofs/Skipped.antt.
+use Prim.Native.Nat.{ℕ}
+use mathlib.Core.Path.{_≡_}
+use mathlib.Core.List.{List}
+use mathlib.Core.Logic.{_↔_}
+use lib.ListN.{length}
+use Rattle.wire.specs.Relations.{Among}
+use Rattle.bundle.specs.Checks.{refusal}
+use Rattle.bundle.specs.Exports.{namePart, indexCall}
+use Rattle.soundness.specs.FileGrammar.{Header, Entry, HasDirectory, IsSection, Known}
+
+-- two files alike in all that is read: as long, with the same header and directory, and the same sections of type 1 and 2
+pub record ReadAlike (file other : List ℕ) : Type 0 where
+  pub long : length file ≡ length other
+  pub header : Header
+  pub entries : List Entry
+  pub has-directory : HasDirectory header entries file
+  pub has-directory′ : HasDirectory header entries other
+  pub sections : (e : Entry) → Among e entries → Known e → (s : List ℕ) → IsSection e s file ↔ IsSection e s other
+
+abbrev pub SkippedUnread : Type 0
+SkippedUnread =
+    (file other : List ℕ) → ReadAlike file other →
+    (refusal file ≡ refusal other) × ((i : ℕ) → namePart file i ≡ namePart other i) ×
+    ((name : List ℕ) → indexCall file name ≡ indexCall other name)
