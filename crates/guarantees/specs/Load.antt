@@ -52,13 +52,10 @@ abbrev pub answerOf : Loaded → Numbers
 answerOf (loaded words exports a) = numbers a
 
 -- A load is accepted, which is answered with 0, exactly when the bundle is sound, within the limits, and fits.
-abbrev pub AcceptsExactly : LoadCall → Type 0
-AcceptsExactly call =
-    (file words : List ℕ) (base : ℤ) (exports : List ℕ) →
-    (answerOf (call file words base exports) .number ≡ 0) ↔ Loadable file words base exports
-
 abbrev pub AcceptedExactly : Type 0
-AcceptedExactly = AcceptsExactly load
+AcceptedExactly =
+    (file words : List ℕ) (base : ℤ) (exports : List ℕ) →
+    (answerOf (load file words base exports) .number ≡ 0) ↔ Loadable file words base exports
 
 -- A load answers n, and not 0, exactly where n is the smallest number that applies to it.
 abbrev pub LoadNumberExactly : LoadCall → Type 0

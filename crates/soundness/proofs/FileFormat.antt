@@ -5,13 +5,13 @@ use mathlib.Core.List.{List, [], _∷_, _++_}
 use native.Mathlib.Omega.{arith}
 use lib.ListN.{length, take, drop, length-append, take-append-drop, length-take}
 use Rattle.wire.specs.Wire.{bigEndian, numberAt, span, orZero}
-use Rattle.wire.specs.Relations.{Number, Sequence, none, next}
+use Rattle.wire.specs.Relations.{Number, Sequence, none, next, Among}
 use Rattle.wire.proofs.Parts.{part-length}
 use Rattle.wire.proofs.Spans.{number-in, span-in}
 use Rattle.wire.proofs.Reading.{Reads, reads-none, reads-join, reads-split, part-reads, reads-all, all-reads, reads-span, reads-number}
 use Rattle.bundle.specs.Header.{sectionCount, directoryOffset}
 use Rattle.soundness.specs.FileGrammar.{Header, IsHeader, header, Entry, IsEntry, entry, HasHeader, starts, HasDirectory, goes-on}
-use Rattle.soundness.specs.FileGrammar.{IsSection, section}
+use Rattle.soundness.specs.FileGrammar.{HasEntry, listed, IsSection, section}
 
 module _ (s : List ℕ) where
   -- the number and the bytes that stand at a position
@@ -204,6 +204,10 @@ has-directory file h =
 pub of-directory : {file : List ℕ} (P : List Entry → Type 0) {h : Header} {es : List Entry} → HasDirectory h es file → P es →
     P (readDirectory file)
 of-directory P k = subst P (sym (one-directory k .1))
+
+-- an entry of the directory is one that is read
+pub entry-read : {file : List ℕ} {e : Entry} → HasEntry file e → Among e (readDirectory file)
+entry-read {e = e} (listed k a) = of-directory (Among e) k a
 
 -- an entry names a section exactly where it lies in the file, and it is the span of the entry
 pub one-section : {file : List ℕ} {e : Entry} {s : List ℕ} → IsSection e s file →

@@ -24,7 +24,7 @@ use Rattle.bundle.specs.Directory.{entryAt, entries, known, sectionOf, digestOf
 use Rattle.bundle.specs.Checks.{headerChecks, directoryChecks}
 use Rattle.bundle.proofs.HeaderLaws.{most-exactly, least-exactly, magic-exactly, directory-exactly}
 use Rattle.bundle.proofs.Rows.{Clear}
-use Rattle.soundness.specs.FileGrammar.{Header, HasHeader, Entry, HasDirectory, IsSection, Known, Occurs, OccursAgain}
+use Rattle.soundness.specs.FileGrammar.{Header, HasHeader, Entry, HasDirectory, listed, IsSection, Known, Occurs, OccursAgain}
 use Rattle.soundness.specs.Applies.{
   Applies,
   over,
@@ -53,6 +53,7 @@ use Rattle.soundness.proofs.FileFormat.{
   one-section,
   has-section,
   of-directory,
+  entry-read,
 }
 use Rattle.soundness.proofs.Decides.{
   dec-same,
@@ -156,11 +157,10 @@ module _ (file : List ℕ) where
             λ e. dec-where (dec-where (dec-known e) (no (λ x. x))) (ℕ-discrete (e .flags % 2) 0) in
             let (e, a, k) = not-each Optional dec (readDirectory file) n in
             let (u, odd) = not-where (dec-where (dec-known e) (no (λ x. x))) k in
-            critical here a u (omega (arith, odd))
+            critical (listed here a) u (omega (arith, odd))
 
         clash : Applies file 6 → All file Optional → ⊥
-        clash (critical {e = e} k a u o) f =
-            omega (arith, f e (of-directory (Among e) k a) u)
+        clash (critical {e = e} k u o) f = omega (arith, f e (entry-read k) u)
 
     row-7 : (someFaulty file Coded (entries file) ≡ true) ↔ Applies file 7
     row-7 = row-exactly _ (plain-fine file) fault clash
@@ -170,11 +170,11 @@ module _ (file : List ℕ) where
             let (e, a, k) =
             not-each Plain (λ e. dec-both (ℕ-discrete (e .compression) 0) (ℕ-discrete (e .algorithm) 1))
             (readDirectory file) n in
-            ⊎-elim (compression here a) (algorithm here a) (not-both-so (ℕ-discrete (e .compression) 0) k)
+            ⊎-elim (compression (listed here a)) (algorithm (listed here a)) (not-both-so (ℕ-discrete (e .compression) 0) k)
 
         clash : Applies file 7 → All file Plain → ⊥
-        clash (compression {e = e} k a n) f = n (f e (of-directory (Among e) k a) .0)
-        clash (algorithm {e = e} k a n) f = n (f e (of-directory (Among e) k a) .1)
+        clash (compression {e = e} k n) f = n (f e (entry-read k) .0)
+        clash (algorithm {e = e} k n) f = n (f e (entry-read k) .1)
 
     row-8 : (someFaulty file Outside (entries file) ≡ true) ↔ Applies file 8
     row-8 = row-exactly _ (inside-fine file) fault clash
@@ -182,10 +182,10 @@ module _ (file : List ℕ) where
         fault : (All file (Inside file) → ⊥) → Applies file 8
         fault n =
             let (e, a, k) = not-each (Inside file) (λ e. decLe (e .offset + e .size) (length file)) (readDirectory file) n in
-            outside here a (omega (arith, k))
+            outside (listed here a) (omega (arith, k))
 
         clash : Applies file 8 → All file (Inside file) → ⊥
-        clash (outside {e = e} k a n) f = omega (arith, f e (of-directory (Among e) k a))
+        clash (outside {e = e} k n) f = omega (arith, f e (entry-read k))
 
     dec-again : (kind : ℕ) → Dec (OccursAgain kind (readDirectory file))
     dec-again kind =
@@ -232,11 +232,11 @@ module _ (file : List ℕ) where
             (λ e. dec-where (dec-known e) (dec-same (sha256 (span file (e .offset) (e .size))) (e .digest)))
             (readDirectory file) n in
             let (u, d) = not-where (dec-known e) k in
-            digest here a u (has-section file e (inside e a)) d
+            digest (listed here a) u (has-section file e (inside e a)) d
 
         clash : Applies file 11 → All file (Digested file) → ⊥
-        clash (digest {e = e} k a u i n) f =
-            n (subst (λ (s : List ℕ). sha256 s ≡ e .digest) (one-section i .1) (f e (of-directory (Among e) k a) u))
+        clash (digest {e = e} k u i n) f =
+            n (subst (λ (s : List ℕ). sha256 s ≡ e .digest) (one-section i .1) (f e (entry-read k) u))
 
     pub directory-means : Means (Applies file) (directoryChecks file)
     unfolding directoryChecks

@@ -2,43 +2,36 @@
 use Prim.Native.Nat.{ℕ}
 use mathlib.Core.Path.{_≡_, sym, subst, _∙_}
 use mathlib.Core.List.{List}
-use Rattle.wire.specs.Relations.{Among}
 use Rattle.manifest.specs.Judged.{exportsOf}
 use Rattle.nodes.specs.Records.{Node, nodesOf}
 use Rattle.bundle.specs.Directory.{entries, entryOf, section, manifestSection, nodesSection}
-use Rattle.soundness.specs.FileGrammar.{Entry, HasDirectory, SectionOf, Occurs, OccursAgain}
+use Rattle.soundness.specs.FileGrammar.{HasDirectory, listed, SectionOf, Occurs, OccursAgain}
 use Rattle.soundness.specs.ManifestGrammar.{Contents, IsManifest}
 use Rattle.soundness.specs.NodesGrammar.{IsNodes}
 use Rattle.soundness.specs.Sound.{Described, Sound}
 use Rattle.soundness.specs.Applies.{HasManifest, manifest, HasNodes, nodes}
 use Rattle.soundness.proofs.ManifestMeaning.{reads-exports}
 use Rattle.soundness.proofs.NodesMeaning.{reads-nodes}
-use Rattle.soundness.proofs.FileFormat.{readHeader, readDirectory, of-directory, one-section, has-section}
+use Rattle.soundness.proofs.FileFormat.{readHeader, readDirectory, of-directory, entry-read, one-section, has-section}
 use Rattle.soundness.proofs.Mirror.{once-mirrored, entry-mirrored, section-mirrored}
 use Rattle.soundness.proofs.Directory.{Inside, All}
 
 module _ (file : List ℕ) (kind : ℕ) (once : OccursAgain kind (readDirectory file) → ⊥) where
+  pub section-only : (s : List ℕ) → SectionOf file kind s → section file kind ≡ s
+  section-only s k =
+      section-mirrored file kind (k .entry) (entry-read (k .has-entry)) (k .of-kind) (once-mirrored file kind .1 once)
+      ∙ one-section (k .is-section) .1
+
   -- where it starts
   pub section-start : {s : List ℕ} (k : SectionOf file kind s) → entryOf kind (entries file) .offset ≡ k .entry .offset
   section-start k =
-      entry-mirrored file kind (k .entry) (of-directory (Among (k .entry)) (k .has-directory) (k .listed)) (k .of-kind)
-      (once-mirrored file kind .1 once) .0
+      entry-mirrored file kind (k .entry) (entry-read (k .has-entry)) (k .of-kind) (once-mirrored file kind .1 once) .0
 
-  pub section-only : (s : List ℕ) → SectionOf file kind s → section file kind ≡ s
-  section-only s k =
-      let e = k .entry in
-      let a = of-directory (Among e) (k .has-directory) (k .listed) in
-      section-mirrored file kind e a (k .of-kind) (once-mirrored file kind .1 once) ∙ one-section (k .is-section) .1
-
-  -- where it starts
   pub section-read : HasDirectory (readHeader file) (readDirectory file) file → All file (Inside file) →
       Occurs kind (readDirectory file) → SectionOf file kind (section file kind)
   section-read dir inside (e, a, k) = record {
-    header = readHeader file;
-    entries = readDirectory file;
-    has-directory = dir;
     entry = e;
-    listed = a;
+    has-entry = listed dir a;
     of-kind = k;
     is-section = rw (section-mirrored file kind e a k (once-mirrored file kind .1 once)) (has-section file e (inside e a));
   }
@@ -60,15 +53,8 @@ module _ {file : List ℕ} (d : Described file) where
   nodes-there =
       let (e, a, k) = d .one-nodes .0 in
       let sound = d .sound-entries e a in
-      let there : SectionOf file 2 (sound .bytes) = record {
-        header = d .header;
-        entries = d .entries;
-        has-directory = d .has-directory;
-        entry = e;
-        listed = a;
-        of-kind = k;
-        is-section = sound .inside;
-      } in
+      let there : SectionOf file 2 (sound .bytes) =
+      record { entry = e; has-entry = listed (d .has-directory) a; of-kind = k; is-section = sound .inside } in
       subst (SectionOf file 2) (sym (section-only file 2 single-nodes _ there)) there
 
   -- and no others are

@@ -6,11 +6,12 @@ use mathlib.Core.Logic.{_↔_, Iff·rfl, Iff·symm, Iff·and, _⊎_, inl, inr}
 use native.Mathlib.Omega.{arith}
 use native.Mathlib.Decide.{ℕ-discrete}
 use borrow.Author.Tests.{ne-eqb}
+use Rattle.wire.specs.Relations.{Among}
 use Rattle.nodes.specs.Records.{Node}
 use Rattle.bundle.specs.Directory.{manifestSection, nodesSection}
 use Rattle.bundle.specs.Checks.{nameRefusal, refusal}
 use Rattle.bundle.specs.Exports.{manifestStart, nameAt, namePart, indexCall}
-use Rattle.soundness.specs.FileGrammar.{Header, HasHeader, starts, Entry, HasDirectory, goes-on, SectionOf}
+use Rattle.soundness.specs.FileGrammar.{Header, HasHeader, starts, Entry, HasDirectory, goes-on, HasEntry, listed, SectionOf}
 use Rattle.soundness.specs.ManifestGrammar.{Contents}
 use Rattle.soundness.specs.Sound.{Described}
 use Rattle.soundness.specs.Applies.{Applies, HasManifest, manifest, HasNodes, nodes}
@@ -50,17 +51,18 @@ module _ {file other : List ℕ} (r : ReadAlike file other) where
       let p = sym (one-directory (r .has-directory) .0) ∙ one-directory k .0 in
       rw (← p, ← same-entries k) (r .has-directory′)
 
+  entry-alike : {e : Entry} → HasEntry file e → HasEntry other e × Among e (r .entries)
+  entry-alike (listed k a) = (listed (directory-alike k) a, rw (same-entries k) a)
+
   pub section-alike : {kind : ℕ} {s : List ℕ} → (kind ≡ 1) ⊎ (kind ≡ 2) → SectionOf file kind s → SectionOf other kind s
-  section-alike {kind} {s} known k = record {
-    header = k .header;
-    entries = k .entries;
-    has-directory = directory-alike (k .has-directory);
-    entry = k .entry;
-    listed = k .listed;
-    of-kind = k .of-kind;
-    is-section =
-        r .sections (k .entry) (rw (same-entries (k .has-directory)) (k .listed)) (rw (k .of-kind) known) s .0 (k .is-section);
-  }
+  section-alike {kind} {s} known k =
+      let (there, among) = entry-alike (k .has-entry) in
+      record {
+        entry = k .entry;
+        has-entry = there;
+        of-kind = k .of-kind;
+        is-section = r .sections (k .entry) among (rw (k .of-kind) known) s .0 (k .is-section);
+      }
 
   pub manifest-alike : {m : Contents} → HasManifest file m → HasManifest other m
   manifest-alike (manifest k i) = manifest (section-alike (inl refl) k) i
@@ -77,14 +79,14 @@ module _ {file other : List ℕ} (r : ReadAlike file other) where
   applies-to (rows.sections k n) = rows.sections (header-alike k) n
   applies-to (rows.directory-offset k n) = rows.directory-offset (header-alike k) n
   applies-to (rows.directory-end k h) = rows.directory-end (header-alike k) (omega (arith, r .long))
-  applies-to (rows.critical k a u o) = rows.critical (directory-alike k) a u o
-  applies-to (rows.compression k a n) = rows.compression (directory-alike k) a n
-  applies-to (rows.algorithm k a n) = rows.algorithm (directory-alike k) a n
-  applies-to (rows.outside k a h) = rows.outside (directory-alike k) a (omega (arith, r .long))
+  applies-to (rows.critical k u o) = rows.critical (entry-alike k .0) u o
+  applies-to (rows.compression k n) = rows.compression (entry-alike k .0) n
+  applies-to (rows.algorithm k n) = rows.algorithm (entry-alike k .0) n
+  applies-to (rows.outside k h) = rows.outside (entry-alike k .0) (omega (arith, r .long))
   applies-to (rows.again k o) = rows.again (directory-alike k) o
   applies-to (rows.missing k o) = rows.missing (directory-alike k) o
-  applies-to (rows.digest {e = e} {s = s} k a u i n) =
-      rows.digest (directory-alike k) a u (r .sections e (rw (same-entries k) a) u s .0 i) n
+  applies-to (rows.digest {e = e} {s = s} k u i n) =
+      let (there, among) = entry-alike k in rows.digest there u (r .sections e among u s .0 i) n
   applies-to (rows.manifest-shape k n) = rows.manifest-shape (section-alike (inl refl) k) n
   applies-to (rows.fixed-string k n) = rows.fixed-string (manifest-alike k) n
   applies-to (rows.export-abi k a n) = rows.export-abi (manifest-alike k) a n

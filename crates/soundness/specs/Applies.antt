@@ -17,6 +17,7 @@ use Rattle.soundness.specs.FileGrammar.{
   HasHeader,
   Entry,
   HasDirectory,
+  HasEntry,
   IsSection,
   Known,
   Occurs,
@@ -48,23 +49,19 @@ pub data Applies (file : List ℕ) : ℕ → Type 0 where
   directory-offset : {h : Header} → HasHeader h file → (h .directory ≡ 32 → ⊥) → Applies file 5
   directory-end : {h : Header} → HasHeader h file → length file < 32 + 60 * h .sections → Applies file 5
   -- some entry of unknown type is critical
-  critical : {h : Header} {es : List Entry} {e : Entry} → HasDirectory h es file → Among e es →
-      (Known e → ⊥) → e .flags % 2 ≡ 1 → Applies file 6
+  critical : {e : Entry} → HasEntry file e → (Known e → ⊥) → e .flags % 2 ≡ 1 → Applies file 6
   -- some entry has compression not 0 or digest algorithm not 1
-  compression : {h : Header} {es : List Entry} {e : Entry} → HasDirectory h es file → Among e es →
-      (e .compression ≡ 0 → ⊥) → Applies file 7
-  algorithm : {h : Header} {es : List Entry} {e : Entry} → HasDirectory h es file → Among e es →
-      (e .algorithm ≡ 1 → ⊥) → Applies file 7
+  compression : {e : Entry} → HasEntry file e → (e .compression ≡ 0 → ⊥) → Applies file 7
+  algorithm : {e : Entry} → HasEntry file e → (e .algorithm ≡ 1 → ⊥) → Applies file 7
   -- some entry's offset plus length, as whole numbers, passes the end of file
-  outside : {h : Header} {es : List Entry} {e : Entry} → HasDirectory h es file → Among e es →
-      length file < e .offset + e .size → Applies file 8
+  outside : {e : Entry} → HasEntry file e → length file < e .offset + e .size → Applies file 8
   -- type 1 or 2 occurs more than once / is missing
   again : {h : Header} {es : List Entry} → HasDirectory h es file → OccursAgain 1 es ⊎ OccursAgain 2 es → Applies file 9
   missing : {h : Header} {es : List Entry} → HasDirectory h es file → (Occurs 1 es → ⊥) ⊎ (Occurs 2 es → ⊥) →
       Applies file 10
   -- the digest of the type 1 or type 2 section differs
-  digest : {h : Header} {es : List Entry} {e : Entry} {s : List ℕ} → HasDirectory h es file → Among e es →
-      Known e → IsSection e s file → (sha256 s ≡ e .digest → ⊥) → Applies file 11
+  digest : {e : Entry} {s : List ℕ} → HasEntry file e → Known e → IsSection e s file → (sha256 s ≡ e .digest → ⊥) →
+      Applies file 11
   -- the manifest doesn't have the stated shape
   manifest-shape : {s : List ℕ} → SectionOf file 1 s → ((m : Contents) → IsManifest m s → ⊥) → Applies file 12
   -- a fixed string or export abi differs, a capability is listed, or closure is 1

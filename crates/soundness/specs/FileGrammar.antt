@@ -61,6 +61,10 @@ pub data HasDirectory (h : Header) (es : List Entry) : List ℕ → Type 0 where
   goes-on : {b d : List ℕ} → IsHeader h b → length es ≡ h .sections → Sequence IsEntry es d → (rest : List ℕ) →
       HasDirectory h es (b ++ (d ++ rest))
 
+-- an entry of the directory
+pub data HasEntry (file : List ℕ) (e : Entry) : Type 0 where
+  listed : {h : Header} {es : List Entry} → HasDirectory h es file → Among e es → HasEntry file e
+
 -- the section that an entry names: so many bytes, so far from the start of the file
 pub data IsSection (e : Entry) (s : List ℕ) : List ℕ → Type 0 where
   section : (before after : List ℕ) → length before ≡ e .offset → length s ≡ e .size →
@@ -83,10 +87,7 @@ OccursOnce kind es = Occurs kind es × (OccursAgain kind es → ⊥)
 
 -- the bytes s are a section of that type in the file
 pub record SectionOf (file : List ℕ) (kind : ℕ) (s : List ℕ) : Type 0 where
-  pub header : Header
-  pub entries : List Entry
-  pub has-directory : HasDirectory header entries file
   pub entry : Entry
-  pub listed : Among entry entries
+  pub has-entry : HasEntry file entry
   pub of-kind : entry .kind ≡ kind
   pub is-section : IsSection entry s file

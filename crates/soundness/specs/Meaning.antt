@@ -20,11 +20,8 @@ abbrev pub SoundExactly : Type 0
 SoundExactly = (file : List ℕ) → Sound file ↔ ((n : ℕ) → Applies file n → ⊥)
 
 -- the check accepts exactly the sound files
-abbrev pub AcceptsExactly : (List ℕ → ℕ) → Type 0
-AcceptsExactly call = (file : List ℕ) → (call file ≡ 0) ↔ Sound file
-
 abbrev pub AcceptedExactly : Type 0
-AcceptedExactly = AcceptsExactly refusal
+AcceptedExactly = (file : List ℕ) → (refusal file ≡ 0) ↔ Sound file
 
 -- nothing is left open: a check that answers by the smallest number that applies is this one
 abbrev pub OnlyCheck : Type 0
