@@ -67,9 +67,9 @@ demand-1 =
 pub demand-2 : Demand2
 demand-2 =
     record {
-      accepted = accepted-exactly;
-      by-number = load-number-exactly;
-      checked = checks.accepted-exactly;
+      load-accepted = accepted-exactly;
+      load-by-number = load-number-exactly;
+      check-accepted = checks.accepted-exactly;
       check-by-number = number-exactly;
       check-by-none = none-exactly;
       sound-exactly = checks.sound-exactly;

@@ -71,10 +71,10 @@ pub record Demand1 : Type 0 where
 -- the node hashes. Otherwise the answer is the lowest number that applies.
 pub record Demand2 : Type 0 where
   -- of the load
-  pub accepted : AcceptedExactly
-  pub by-number : LoadNumberExactly load
+  pub load-accepted : AcceptedExactly
+  pub load-by-number : LoadNumberExactly load
   -- of the check alone, 1 to 20; sound is that none of these applies, described that none of 1 to 14 does
-  pub checked : checks.AcceptedExactly
+  pub check-accepted : checks.AcceptedExactly
   pub check-by-number : NumberExactly refusal
   pub check-by-none : NoneExactly refusal
   pub sound-exactly : checks.SoundExactly
