@@ -10,10 +10,10 @@ use Rattle.table.proofs.SlotLaws.{room-long, room-is}
 use Rattle.table.proofs.FrameLaws.{job-room-is, job-words}
 use Rattle.table.proofs.SoundFrames.{one-frame-list}
 use Rattle.soundness.proofs.ExportCalls.{name-by-index, name-refused, name-bytes, name-in-file, only-name}
-use Rattle.soundness.proofs.ExportCalls.{index-by-name, no-such-name, empty-name, index-refused, only-index}
+use Rattle.soundness.proofs.ExportCalls.{index-by-name, no-such-name, empty-name, index-refused, index-tells, only-index}
 use Rattle.soundness.proofs.Meaning as checks
 use Rattle.engine.specs.Run.{run}
-use Rattle.soundness.proofs.Applies.{number-exactly, none-exactly}
+use Rattle.soundness.proofs.Applies.{number-exactly}
 use Rattle.soundness.proofs.Skipped.{skipped-unread}
 use Rattle.soundness.proofs.FileMeaning.{big-endian}
 use Rattle.soundness.proofs.NodesMeaning.{reads-children, hashed-bytes, longest-reached}
@@ -21,7 +21,7 @@ use Rattle.loader.specs.Answer.{Numbers, numbers}
 use Rattle.guarantees.specs.Session.{Request, Bring, AllAlike}
 use Rattle.guarantees.specs.Load.{Loads}
 use Rattle.guarantees.specs.Demands.{Demand1, Demand2, AllRuns, OnlyRuns, Demand3}
-use Rattle.guarantees.proofs.RefusalKeeps.{refusal-keeps}
+use Rattle.guarantees.proofs.RefusalKeeps.{refusal-keeps, number-tells}
 use Rattle.guarantees.proofs.RefusedExactly.{refused-exactly}
 use Rattle.guarantees.proofs.BaseBlind.{base-blind}
 use Rattle.guarantees.proofs.RunSimulates.{run-simulates}
@@ -45,6 +45,7 @@ demand-1 =
       load-kept = load-refusal-keeps;
       run-refused = refused-exactly;
       run-kept = refusal-keeps;
+      run-tells = number-tells;
       name-by-index = name-by-index;
       name-refused = name-refused;
       name-bytes = name-bytes;
@@ -53,6 +54,7 @@ demand-1 =
       no-such-name = no-such-name;
       empty-name = empty-name;
       index-refused = index-refused;
+      index-tells = index-tells;
       load-blind = load-blind;
       run-blind = base-blind;
       load-zero = λ file words words′ base exports exports′ a e z.
@@ -71,7 +73,6 @@ demand-2 =
       load-by-number = load-number-exactly;
       check-accepted = checks.accepted-exactly;
       check-by-number = number-exactly;
-      check-by-none = none-exactly;
       sound-exactly = checks.sound-exactly;
       described = checks.described-exactly;
       skipped-unread = skipped-unread;
@@ -118,6 +119,7 @@ pub demand-3 : Demand3
 demand-3 =
     record {
       all-runs = all-runs;
+      run-simulates = run-simulates;
       one-order = one-order;
       one-start = one-start;
       done-stays = done-stays;

@@ -2,7 +2,7 @@
 use Prim.Native.Nat.{ℕ, zero, suc, _≤_, _<_}
 use mathlib.Core.Path.{_≡_, refl, sym, ap, _∙_}
 use mathlib.Core.Bool.{false}
-use mathlib.Core.List.{List, [], _∷_, _++_}
+use mathlib.Core.List.{List, [], _∷_, _++_, map}
 use native.Mathlib.Omega.{arith}
 use native.Mathlib.Decide.{decLt, ℕ-discrete}
 use lib.ListN.{length, getD, take, drop, length-append, length-drop}
@@ -44,6 +44,12 @@ unfolding exportHashes
 export-hash [] i l = absurd (omega arith)
 export-hash (e ∷ es) zero l = (e, here, refl)
 export-hash (e ∷ es) (suc i) l = let (f, a, q) = export-hash es i (omega arith) in (f, there a, q)
+
+-- the hashes of the exports, one by one
+hashes-mapped : (es : List Export) → exportHashes es ≡ map (λ (e : Export). e .hash) es
+unfolding exportHashes
+hashes-mapped [] = refl
+hashes-mapped (e ∷ es) = ap (λ (hs : List (List ℕ)). e .hash ∷ hs) (hashes-mapped es)
 
 -- the slots of some hashes
 module _ (rs : List Node) where
@@ -147,7 +153,7 @@ module _ (file w out : List ℕ) (b : ℕ) (sound : Sound file) (inside : b ≤ 
         untouched = rw left-table (written-untouched rs are (sound .distinct) (sound .closed) whole (drop b w) fits);
         export-slots = λ i l.
             let (e, a, q) = export-hash es i l in
-            rw (left-table, slots-at rs (exportHashes es) (drop (length es) out) i (omega arith))
+            rw (left-table, ← hashes-mapped es, slots-at rs (exportHashes es) (drop (length es) out) i (omega arith))
             (slot-of (getD (exportHashes es) i []) (rw q (sound .exports e a)));
         exports-long = simp (length-append, length-drop) (omega arith);
         exports-rest = drop-at (slotsNamed rs (exportHashes es)) (drop (length es) out) (length es) (k ∙ m);

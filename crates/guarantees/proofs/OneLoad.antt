@@ -1,14 +1,14 @@
 -- Two loads of one file, at one base of the same tables, leave the same words and answer the same numbers.
 use Prim.Native.Nat.{ℕ, _+_, _-_, _<_}
 use mathlib.Core.Path.{_≡_, sym, ap, _∙_}
-use mathlib.Core.List.{List, [], _++_}
+use mathlib.Core.List.{List, [], _++_, map}
 use native.Mathlib.Omega.{arith}
 use native.Mathlib.Decide.{decLt}
 use lib.ListN.{length, getD, take, drop, take-append-drop}
 use lib.Seq.{ext-getD, getD-drop}
 use lib.IntN.{ℤ, pos}
 use Rattle.wire.specs.Relations.{Distinct}
-use Rattle.bundle.specs.References.{exportHashes}
+use Rattle.manifest.specs.Content.{Export}
 use Rattle.soundness.proofs.NodesTrees.{one-tree}
 use Rattle.loader.specs.Answer.{Numbers}
 use Rattle.guarantees.specs.Session.{Holding}
@@ -76,7 +76,7 @@ module _ {file words : List ℕ} {base : ℤ} {exports w v e o : List ℕ} {a b 
   -- and the export words, since a tree has one slot
   slot′ : (i : ℕ) → i < a .exports →
       NamedSlot (l .sound .nodes) (l .order) table′ (getD o i 0)
-      (getD (exportHashes (l .sound .described .manifest .exports)) i [])
+      (getD (map (λ (e : Export). e .hash) (l .sound .described .manifest .exports)) i [])
   slot′ i k =
       rw (same-order, ← same-at, ← same-records, ← same-exports) (m .export-slots i (omega (arith, same-exports-count)))
 

@@ -17,17 +17,17 @@ use Rattle.engine.specs.Run.{ran, run}
 use Rattle.engine.specs.Answer as engine
 use Rattle.soundness.specs.Meaning as checks
 use Rattle.bundle.specs.Checks.{refusal}
-use Rattle.soundness.specs.Applies.{NumberExactly, NoneExactly}
+use Rattle.soundness.specs.Applies.{NumberExactly}
 use Rattle.bundle.specs.Exports.{namePart}
 use Rattle.soundness.specs.ExportCalls.{NameByIndex, NameRefused, NameBytes, NameInFile, OnlyName}
-use Rattle.soundness.specs.ExportCalls.{index, IndexByName, NoSuchName, EmptyName, IndexRefused, OnlyIndex}
+use Rattle.soundness.specs.ExportCalls.{index, IndexByName, NoSuchName, EmptyName, IndexRefused, IndexTells, OnlyIndex}
 use Rattle.soundness.specs.Skipped.{SkippedUnread}
 use Rattle.soundness.specs.FileMeaning.{BigEndian}
 use Rattle.soundness.specs.NodesMeaning.{ReadsChildren, HashedBytes, LongestReached}
 use Rattle.loader.specs.declared.LoadAnswer.{LoadAnswer}
 use Rattle.loader.specs.Answer.{numbers}
 use Rattle.loader.specs.Load.{loaded, load}
-use Rattle.guarantees.specs.Run.{RunCall, started, RefusalKeeps, RefusedExactly, JobsSound, BaseBlind, DoneStays}
+use Rattle.guarantees.specs.Run.{RunCall, RunSimulates, started, RefusalKeeps, NumberTells, RefusedExactly, JobsSound, BaseBlind, DoneStays}
 use Rattle.guarantees.specs.OnlyRun.{OnlyRun, SameAll}
 use Rattle.guarantees.specs.Session.{Request, Bring, Table, AllAlike, SessionBlind}
 use Rattle.guarantees.specs.Load.{AcceptedExactly, LoadNumberExactly, LoadRefusalKeeps, OnlyLoad}
@@ -44,6 +44,7 @@ pub record Demand1 : Type 0 where
   pub load-kept : LoadRefusalKeeps load
   pub run-refused : RefusedExactly
   pub run-kept : RefusalKeeps
+  pub run-tells : NumberTells
   -- a call asked for a name answers the part of the file that it is, (0, 0) by 1 to 14 or where there is no such index
   pub name-by-index : NameByIndex namePart
   pub name-refused : NameRefused namePart
@@ -54,6 +55,7 @@ pub record Demand1 : Type 0 where
   pub no-such-name : NoSuchName index
   pub empty-name : EmptyName index
   pub index-refused : IndexRefused index
+  pub index-tells : IndexTells
   -- nothing before our part of the table is written or looked at
   pub load-blind : LoadBlind
   pub run-blind : BaseBlind
@@ -76,7 +78,6 @@ pub record Demand2 : Type 0 where
   -- of the check alone, 1 to 20; sound is that none of these applies, described that none of 1 to 14 does
   pub check-accepted : checks.AcceptedExactly
   pub check-by-number : NumberExactly refusal
-  pub check-by-none : NoneExactly refusal
   pub sound-exactly : checks.SoundExactly
   pub described : checks.DescribedExactly
   -- a section of any other type is skipped unread
@@ -118,6 +119,8 @@ OnlyRuns =
 
 pub record Demand3 : Type 0 where
   pub all-runs : AllRuns run
+  -- and so does a single run, on any sound slots
+  pub run-simulates : RunSimulates
   -- there is just one such store
   pub one-order : OneOrder
   pub one-start : OneStart

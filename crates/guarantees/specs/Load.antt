@@ -1,7 +1,7 @@
 -- What the load call guarantees. The proofs are in proofs/, a file for each statement.
 use Prim.Native.Nat.{ℕ, _≤_, _<_}
 use mathlib.Core.Path.{_≡_}
-use mathlib.Core.List.{List, []}
+use mathlib.Core.List.{List, [], map}
 use mathlib.Core.Logic.{_↔_}
 use lib.ListN.{length, getD, take, drop}
 use lib.IntN.{ℤ, pos, negsuc}
@@ -9,7 +9,7 @@ use Rattle.calculus.specs.Tree.{Tree}
 use Rattle.table.specs.Slots.{room}
 use Rattle.table.specs.Holds.{Holds, Untouched}
 use Rattle.nodes.specs.Records.{Node, hashes}
-use Rattle.bundle.specs.References.{exportHashes}
+use Rattle.manifest.specs.Content.{Export}
 use Rattle.soundness.specs.Graph.{Names}
 use Rattle.soundness.specs.Sound.{Sound}
 use Rattle.soundness.specs.ManifestGrammar.{Contents}
@@ -102,7 +102,7 @@ pub record Loads (file words : List ℕ) (base : ℤ) (exports words′ exports�
   -- the word of each export is the slot of the tree that its hash names, in manifest order; the words behind them stay
   pub export-slots : (i : ℕ) → i < answer .exports →
       NamedSlot (sound .nodes) order (drop at words′) (getD exports′ i 0)
-      (getD (exportHashes (sound .described .manifest .exports)) i [])
+      (getD (map (λ (e : Export). e .hash) (sound .described .manifest .exports)) i [])
   pub exports-long : length exports′ ≡ length exports
   pub exports-rest : drop (answer .exports) exports′ ≡ drop (answer .exports) exports
 

@@ -15,6 +15,7 @@ use Rattle.table.specs.Sound.{SoundSlot, SoundSlots}
 use Rattle.table.specs.Holds.{Holds}
 use Rattle.table.specs.SoundFrames.{SoundJobs}
 use Rattle.engine.specs.declared.RunAnswer.{RunAnswer}
+use Rattle.engine.specs.declared.RunAnswer.the-variants.{Refused, Done, Stopped}
 use Rattle.engine.specs.Run.{Ran, ran, run}
 use Rattle.engine.specs.Answer.{Numbers, numbers}
 use Rattle.guarantees.specs.Agrees.{Agrees}
@@ -55,6 +56,16 @@ RefusalKeeps =
     (w v j k : List ℕ) (base f x : ℤ) (used fuel : ℕ) (a : RunAnswer)
     → run w base f x used fuel j ≡ ran v k a → started (numbers a) ≡ false
     → (n : ℕ) × RefusedWith n w j (ran v k a) × ((n ≡ 21) ⊎ ((n ≡ 23) ⊎ (n ≡ 24)))
+
+-- The number tells which case of the answer it is: a refusal has 21, 23 or 24, a stop 31 or above.
+abbrev pub Tells : RunAnswer → Type 0
+Tells (Refused n) = (n ≡ 21) ⊎ ((n ≡ 23) ⊎ (n ≡ 24))
+Tells (Done slot steps used) = Unit {0}
+Tells (Stopped n f x steps used waiting) = 31 ≤ n
+
+abbrev pub NumberTells : Type 0
+NumberTells =
+    (w v j k : List ℕ) (base f x : ℤ) (used fuel : ℕ) (a : RunAnswer) → run w base f x used fuel j ≡ ran v k a → Tells a
 
 -- 21: base negative or past the end of the table, or used count 0 or above room
 pub data OutOfTable (w : List ℕ) : ℤ → ℕ → Type 0 where

@@ -18,6 +18,7 @@ use Rattle.manifest.specs.Content.{textAt, names}
 use Rattle.manifest.specs.Judged.{exportsOf}
 use Rattle.manifest.proofs.Places.{place-name}
 use Rattle.bundle.specs.declared.exports.Part.{Part}
+use Rattle.bundle.specs.declared.exports.IndexAnswer.the-variants.{Refused}
 use Rattle.bundle.specs.Directory.{manifestSection}
 use Rattle.bundle.specs.Checks.{nameRefusal}
 use Rattle.bundle.specs.Exports.{nameAt, namePart, nameCall, indexAsked, indexCall, answerOf, numbers}
@@ -27,7 +28,7 @@ use Rattle.soundness.specs.Sound.{Described}
 use Rattle.soundness.specs.Applies.{Applies, Smallest}
 use Rattle.soundness.specs.ExportCalls.{BeforeExport, before-export, IsNamePart, name-part}
 use Rattle.soundness.specs.ExportCalls.{NameByIndex, NameRefused, NameBytes, NameInFile, OnlyName}
-use Rattle.soundness.specs.ExportCalls.{IndexCall, index, IndexByName, NoSuchName, EmptyName, IndexRefused, IndexBelow, OnlyIndex}
+use Rattle.soundness.specs.ExportCalls.{IndexCall, index, IndexByName, NoSuchName, EmptyName, IndexRefused, IndexTells, IndexBelow, OnlyIndex}
 use Rattle.soundness.proofs.ManifestLengths.{head-long, export-long, sequence-long}
 use Rattle.soundness.proofs.ManifestMeaning.{reads-exports}
 use Rattle.soundness.proofs.Applies.{name-number-exactly, name-none-exactly}
@@ -221,3 +222,16 @@ index-below file name = elim (ℕ-discrete (nameRefusal file) 0) [
       omega (arith, h, most)
   | no z ↦ rw (ne-eqb (nameRefusal file) 0 z) (omega arith)
 ]
+
+pub index-tells : IndexTells
+unfolding indexCall
+index-tells file name n e = elim (ℕ-discrete (nameRefusal file) 0) [
+  | yes z ↦ go (indexAsked (manifestSection file) name) (sym (index-asked file z name) ∙ e)
+  | no z ↦
+      let q : nameRefusal file ≡ n = cc (rw (ne-eqb (nameRefusal file) 0 z) at e) in
+      omega (arith, z, q)
+]
+  where
+    go : (f : Found) → answerOf f ≡ Refused n → 0 < n
+    go (FoundAt i) q = let z : _≡_ {A = ℕ} 0 1 = cc in absurd (omega arith)
+    go Nothing q = let z : 25 ≡ n = cc in omega arith

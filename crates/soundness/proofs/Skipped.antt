@@ -1,16 +1,17 @@
 -- The same numbers apply to two files alike in all that is read, so the answers are the same: proofs of specs/Skipped.antt.
 use Prim.Native.Nat.{ℕ}
 use mathlib.Core.Path.{_≡_, refl, sym, subst, _∙_}
-use mathlib.Core.List.{List, _++_}
+use mathlib.Core.List.{List, [], _++_}
 use mathlib.Core.Logic.{_↔_, Iff·rfl, Iff·symm, Iff·and, _⊎_, inl, inr}
 use native.Mathlib.Omega.{arith}
 use native.Mathlib.Decide.{ℕ-discrete}
 use borrow.Author.Tests.{ne-eqb}
 use Rattle.wire.specs.Relations.{Among}
+use Rattle.wire.proofs.Spans.{span-none}
 use Rattle.nodes.specs.Records.{Node}
 use Rattle.bundle.specs.Directory.{manifestSection, nodesSection}
 use Rattle.bundle.specs.Checks.{nameRefusal, refusal}
-use Rattle.bundle.specs.Exports.{manifestStart, nameAt, namePart, indexCall}
+use Rattle.bundle.specs.Exports.{manifestStart, nameAt, namePart, nameCall, indexCall}
 use Rattle.soundness.specs.FileGrammar.{Header, HasHeader, starts, Entry, HasDirectory, goes-on, HasEntry, listed, SectionOf}
 use Rattle.soundness.specs.ManifestGrammar.{Contents}
 use Rattle.soundness.specs.Sound.{Described}
@@ -22,6 +23,7 @@ use Rattle.soundness.proofs.Sections.{section-only, section-start, sing
 use Rattle.soundness.proofs.Smallest.{smallest-alike, one-number}
 use Rattle.soundness.proofs.Applies.{number-exactly, name-number-exactly}
 use Rattle.soundness.proofs.Meaning.{unrefused-described}
+use Rattle.soundness.proofs.Calls.{name-read}
 
 pub alike-back : {file other : List ℕ} → ReadAlike file other → ReadAlike other file
 alike-back r = record {
@@ -141,6 +143,18 @@ module _ {file other : List ℕ} (r : ReadAlike file other) where
     | yes z ↦ let (d, e) = both-described z in rw (same-name-refusal, same-manifest r d e, same-start r d e)
   ]
 
+  bytes-alike : (i : ℕ) → nameCall file i ≡ nameCall other i
+  unfolding nameCall namePart
+  bytes-alike i = elim (ℕ-discrete (nameRefusal file) 0) [
+    | no k ↦ rw (refused-none file k, refused-none other (λ z. k (same-name-refusal ∙ z)))
+    | yes z ↦
+        let (d, e) = both-described z in
+        name-read file z i ∙ rw (same-manifest r d e) (sym (name-read other (sym same-name-refusal ∙ z) i))
+  ]
+    where
+      refused-none : (f : List ℕ) → (nameRefusal f ≡ 0 → ⊥) → nameCall f i ≡ []
+      refused-none f k = rw (ne-eqb (nameRefusal f) 0 k) (span-none f)
+
   index-alike : (name : List ℕ) → indexCall file name ≡ indexCall other name
   unfolding indexCall
   index-alike name = elim (ℕ-discrete (nameRefusal file) 0) [
@@ -149,4 +163,4 @@ module _ {file other : List ℕ} (r : ReadAlike file other) where
   ]
 
 pub skipped-unread : SkippedUnread
-skipped-unread file other r = (same-refusal r, name-alike r, index-alike r)
+skipped-unread file other r = (same-refusal r, λ i. (name-alike r i, bytes-alike r i), index-alike r)

@@ -6,6 +6,7 @@ use lib.ListN.{length, getD, take}
 use Rattle.wire.specs.Relations.{Number, Sequence, Among}
 use Rattle.manifest.specs.Content.{names}
 use Rattle.bundle.specs.declared.exports.Part.{Part}
+use Rattle.bundle.specs.declared.exports.IndexAnswer.the-variants.{Refused}
 use Rattle.bundle.specs.Exports.{namePart, nameCall, indexCall, IndexNumbers, numbers}
 use Rattle.soundness.specs.FileGrammar.{SectionOf}
 use Rattle.soundness.specs.ManifestGrammar.{Contents, IsHead, IsExport}
@@ -87,6 +88,10 @@ EmptyName call = (file : List ℕ) → Described file → call file [] ≡ recor
 abbrev pub IndexRefused : IndexCall → Type 0
 IndexRefused call =
     (file name : List ℕ) (n : ℕ) → Smallest (Applies file) n → n ≤ 14 → call file name ≡ record { number = n; index = 0 }
+
+-- the number tells which case of the answer it is: no refusal has 0
+abbrev pub IndexTells : Type 0
+IndexTells = (file name : List ℕ) (n : ℕ) → indexCall file name ≡ Refused n → 0 < n
 
 -- the index is below 32, the most exports that a bundle has, whatever the file and the name
 abbrev pub IndexBelow : Type 0

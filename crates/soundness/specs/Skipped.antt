@@ -7,7 +7,7 @@ use mathlib.Core.Logic.{_↔_}
 use lib.ListN.{length}
 use Rattle.wire.specs.Relations.{Among}
 use Rattle.bundle.specs.Checks.{refusal}
-use Rattle.bundle.specs.Exports.{namePart, indexCall}
+use Rattle.bundle.specs.Exports.{namePart, nameCall, indexCall}
 use Rattle.soundness.specs.FileGrammar.{Header, Entry, HasDirectory, IsSection, Known}
 
 -- two files alike in all that is read: as long, with the same header and directory, and the same sections of type 1 and 2
@@ -22,5 +22,6 @@ pub record ReadAlike (file other : List ℕ) : Type 0 where
 abbrev pub SkippedUnread : Type 0
 SkippedUnread =
     (file other : List ℕ) → ReadAlike file other →
-    (refusal file ≡ refusal other) × ((i : ℕ) → namePart file i ≡ namePart other i) ×
+    (refusal file ≡ refusal other) ×
+    ((i : ℕ) → (namePart file i ≡ namePart other i) × (nameCall file i ≡ nameCall other i)) ×
     ((name : List ℕ) → indexCall file name ≡ indexCall other name)
