@@ -7,8 +7,8 @@
     tests/believe.py --write  writes the lists of docs/TRUST.md anew; what it says of each file stays
 
 To believe are the demands' statements (the records `Demand..`), and whatever a definition to believe names. It stops at the calls' own
-definitions: the theorems say what these do, the contracts that the code equals them. Types that are declared in code are
-named only, and the kit's library is not followed.
+definitions: the theorems say what these do, the contracts that the code equals them; and at definitions that a field of the demands
+determines. Types that are declared in code are named only, and the kit's library is not followed. Who calls from C reads crates/arboricx too.
 
 Then the same is asked of pages and definitions that are wrong, each in one way; the test fails if one of them passes.
 """
@@ -17,6 +17,7 @@ import re
 import sys
 
 import antt
+import guarantees
 
 PAGE = "docs/TRUST.md"
 DEMANDS = "crates/guarantees/specs/Demands.antt"
@@ -27,17 +28,28 @@ CALLS = {
     "bundle/Exports": ["namePart", "nameCall", "indexCall"],
     "loader/Load": ["load"],
     "engine/Run": ["run"],
-    # a reader, which a theorem is about
-    "nodes/Records": ["childrenOf"],
+}
+# definitions that a field of the demands determines, wherever the demands name them
+FIXED = {
+    "wire/Wire": {"bigEndian": "Demand2.big-endian"},
+    "nodes/Records": {"childrenOf": "Demand2.reads-children"},
+    "table/Slots": {"room": "Demand1.room-is"},
+    "table/Frames": {"frameRoom": "Demand1.job-room-is", "recordAt": "Demand1.job-words"},
 }
 
 
 class Closure:
-    """The definitions to believe in reading order, the calls where it stops, and the declared types that are named."""
+    """The definitions to believe in reading order, the calls and fixed definitions where it stops, and the declared types that are named."""
 
     def __init__(self, specs):
         self.specs = specs
         self.calls = [self.named(module, name) for module, names in CALLS.items() for name in names]
+        self.fixed = {self.named(module, name): field for module, names in FIXED.items() for name, field in names.items()}
+        for item, field in self.fixed.items():
+            record, name = field.split(".")
+            if name not in self.named("guarantees/Demands", record).inner:
+                raise antt.Fault(f"{DEMANDS} has no {field}, which is to determine {item}")
+        stops = {*self.calls, *self.fixed}
         roots = [i for m in specs.order for i in m.items.values() if i.kind == "pub record" and i.name.startswith("Demand")]
         seen, declared, waiting = set(), set(), roots
         while waiting:
@@ -46,11 +58,13 @@ class Closure:
                 declared.add(item)
             elif item not in seen:
                 seen.add(item)
-                waiting += specs.names(item, signature_only=item in self.calls)
+                waiting += specs.names(item, signature_only=item in stops)
         self.declared = sorted(declared)
         self.calls = [c for c in self.calls if c in seen]
-        self.files = {m: [i for i in m.items.values() if i in seen and i not in self.calls] for m in specs.order}
-        self.outside = [m for m, items in self.files.items() if set(m.items.values()) - set(items) - set(self.calls)]
+        self.fixed = {i: field for i, field in self.fixed.items() if i in seen}
+        self.files = {m: [i for i in m.items.values() if i in seen and i not in stops] for m in specs.order}
+        self.for_c = {m: list(m.items.values()) for m in specs.order if m.crate == "arboricx"}
+        self.outside = [m for m, items in self.files.items() if m not in self.for_c and set(m.items.values()) - set(items) - stops]
         self.files = {m: items for m, items in self.files.items() if items}
 
     def named(self, module, name):
@@ -65,10 +79,10 @@ class Closure:
     def code(self):
         return sum(i.count(comments=False) for items in self.files.values() for i in items)
 
-    def read(self):
+    def read(self, files=None):
         """The rows of what to read: file, of it, lines."""
         rows = {}
-        for module, items in self.files.items():
+        for module, items in (files or self.files).items():
             rest = [i for i in module.items.values() if i not in items]
             of_it = listed(items) if len(items) < len(rest) else "all but " + listed(rest) if rest else "all"
             rows[str(module)] = (of_it, str(sum(i.count() for i in items)))
@@ -89,7 +103,7 @@ class Page:
     def __init__(self, text):
         self.text = text
         self.lists = {}
-        for name in ("read", "inner", "examples"):
+        for name in ("read", "c", "inner", "examples"):
             rows = {}
             for row in self.rows(name):
                 file, *cells = [c.strip() for c in row.split("|")[1:-1]]
@@ -128,8 +142,14 @@ def written(page, closure):
         body += f"| {module} | {rows[str(module)][0]} | {rows[str(module)][1]} | {page.said('read', module)} |\n"
     body += f"\nIn all {closure.lines():,} lines, {closure.code():,} without the comments.\n"
     page = Page(page.with_block("read", body))
+    rows = closure.read(closure.for_c)
+    body = "| File | Of it | Lines | What it is |\n|---|---|---|---|\n"
+    body += "".join(f"| {m} | {rows[str(m)][0]} | {rows[str(m)][1]} | {page.said('c', m)} |\n" for m in closure.for_c)
+    page = Page(page.with_block("c", body))
     names = [f"`{c.module}.{c.name}`" for c in closure.calls]
     page = Page(page.with_block("calls", ", ".join(names) + "\n"))
+    names = [f"`{i.module}.{i.name}` (`{field}`)" for i, field in closure.fixed.items()]
+    page = Page(page.with_block("fixed", ", ".join(names) + "\n"))
     page = Page(page.with_block("declared", ", ".join(f"`{d}`" for d in closure.declared) + "\n"))
     examples = [m for m in closure.outside if str(m) in page.lists["examples"]]
     for name, modules in (("inner", [m for m in closure.outside if m not in examples]), ("examples", examples)):
@@ -190,6 +210,7 @@ def wrong(text, texts):
     file, name = next((m, i.name) for m in closure.outside for i in m.items.values() if i not in closure.files.get(m, []) + closure.calls)
     new = f"\nuse Rattle.{file.crate}.specs.{file.name}.{{{name} as more}}\npub record Demand0 : Type 0 where\n  pub new : more\n"
     yield "a demand that names a definition more", text, {DEMANDS: demands + new}, f"{file} "
+    yield "a field that determines a definition is gone", text, {DEMANDS: demands.replace("pub room-is :", "pub room :")}, "is to determine"
     new = "\npub record Demand0 : Type 0 where\n" + "  pub new : ℕ\n" * MOST
     yield "a demand that is too long", text, {DEMANDS: demands + new}, f"more than {MOST:,}"
 
@@ -202,14 +223,20 @@ def main(arguments):
     if arguments == ["--write"]:
         (antt.ROOT / PAGE).write_text(written(Page(text), closure))
     elif arguments == ["--text"]:
-        for module, items in closure.files.items():
+        for module, items in [*closure.files.items(), *closure.for_c.items()]:
             print(f"\n-- ==== {module}\n")
             print("\n\n".join("\n".join(i.lines) for i in items))
+        print("\n-- ==== the contracts of the calls\n")
+        tree = guarantees.Tree(guarantees.read())
+        print("\n".join(tree.source(name).rstrip("{ \n") for name in [*guarantees.PUBLIC, *tree.exported()[0]]))
+        print("\n-- ==== types that are declared in code\n")
+        print("\n".join(tree.declared(name) for name in closure.declared))
     elif arguments == ["--list"]:
         for module, items in closure.files.items():
             print(f"{module}: {sum(i.count() for i in items)} lines")
             print("".join(f"    {i.name} {i.count()}\n" for i in items), end="")
         print("\nthe calls, whose text nobody has to believe\n" + "\n".join(f"    {c}" for c in closure.calls))
+        print("\nwhat a field of the demands determines\n" + "\n".join(f"    {i}: {field}" for i, field in closure.fixed.items()))
         print("\ntypes that are declared in code\n" + "\n".join(f"    {d}" for d in closure.declared))
         print(f"\n{closure.lines():,} lines, {closure.code():,} without the comments")
     elif arguments:

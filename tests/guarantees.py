@@ -14,7 +14,7 @@ Each page is one table, with headings between groups of rows. What stands in `..
 It fails unless every reference is there; each statement has in its row a proof of that type, the statement itself or applied to a call,
 and each proof of a declared statement has that in its row; every must-fail edit stands in just one row; every field of the
 demands, every statement that is proved, every function that is exported for C and every public call stands in some row; and none of these
-functions has a `requires`.
+functions has a `requires`, or a contract whose definition gets the arguments in another order than the function.
 
 Then the same is asked of pages and sources that are wrong, each in one way; the test fails if one of them passes.
 """
@@ -153,6 +153,12 @@ class Tree:
                     return found[0]
         return None
 
+    def declared(self, name):
+        """The text of a struct or an enum of the source."""
+        crate, *path, last = name.split("::")
+        text = self.texts[f"crates/{crate}/src/{'/'.join(path) or 'lib'}.rt"]
+        return re.search(rf"^(?:pub )?(?:struct|enum) {last} \{{.*?^\}}", text, re.M | re.S)[0]
+
     def exported(self):
         """The functions that are exported for C, as crate::module::name, and their files."""
         found, wrong = {}, []
@@ -164,6 +170,17 @@ class Tree:
                 module = "" if where[1] == "lib" else where[1].replace("/", "::") + "::"
                 found |= {f"arboricx::{module}{name}": path for name in names}
         return found, wrong
+
+
+def out_of_order(contract):
+    """Whether a side of an equation of a contract names the function's arguments in another order than the function does."""
+    signature, _, ensures = contract.partition("ensures")
+    arguments = re.findall(r"(\w+): ", signature[signature.index("(") :])
+    for side in re.split("[≡×]", ensures):
+        named = [arguments.index(word) for word in re.findall(r"\w+", side) if word in arguments]
+        if named != sorted(set(named)):
+            return True
+    return False
 
 
 class Row:
@@ -244,6 +261,8 @@ def faults(texts):
             found.append(f"{functions.get(name, 'tests/guarantees.py')}: {name}: there is no such function")
         elif re.search(r"\brequires\b", contract):
             found.append(f"{tree.place(name)}: {name}: a call that anyone may make has a 'requires'")
+        elif out_of_order(contract):
+            found.append(f"{tree.place(name)}: {name}: its contract names the arguments in another order")
         if name not in standing["Function"]:
             found.append(f"{tree.place(name)}: {name}: stands in no row")
     return found
@@ -319,6 +338,9 @@ def wrong(texts):
         path, contract = tree.place(name).split(":")[0], tree.source(name)
         asks = contract.replace("ensures", "requires { ⌜ 0 ≡ 0 ⌝ }\n    ensures", 1)
         yield f"a 'requires' on {name}", {path: texts[path].replace(contract, asks)}, f"{name}: a call that anyone may make has a 'requires'"
+    for name, old, new in (("arboricx::arboricx_run", "base f x", "base x f"), ("engine::run", "(jobs .exit)", "(words .exit)")):
+        path, contract = tree.place(name).split(":")[0], tree.source(name)
+        yield f"arguments of {name} swapped", {path: texts[path].replace(contract, contract.replace(old, new, 1))}, f"{name}: its contract names"
     source = "crates/arboricx/src/lib.rt"
     call = '\n#[no_mangle]\npub extern "C" fn arboricx_new()\n    ensures { }\n{\n}\n'
     yield "a call for C that no row has", {source: texts[source] + call}, "arboricx::arboricx_new: stands in no row"
