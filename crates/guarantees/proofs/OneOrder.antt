@@ -34,7 +34,7 @@ one-earliest : {rs ps : List Node} {r q : Node} → Earliest rs ps r → Earlies
 one-earliest {r = r} {q = q} e f =
     ⊎-elim (λ z. z)
     (λ a. absurd (⊎-elim (λ m. f .first r m (e .unplaced) (e .ready)) (λ m. e .first q m (f .unplaced) (f .ready)) a))
-    (one-first (e .before) (f .before) r q (e .behind) (f .behind) (sym (e .there) ∙ f .there))
+    (one-first (e .before) (f .before) r q (e .after) (f .after) (sym (e .there) ∙ f .there))
 
 placing-some : {rs ps : List Node} → Placing rs ps → 0 < length ps
 placing-some (leaf-record a e) = omega arith

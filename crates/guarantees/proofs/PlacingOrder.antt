@@ -83,12 +83,12 @@ childless (stem {a = a} l) f = absurd (omega (arith, among-index [] (f a here) .
 childless (fork {a = a} l m) f = absurd (omega (arith, among-index [] (f a here) .1))
 
 module _ (rs : List Node) where
-  pub among-middle : (r : Node) (before behind : List Node) → Among r (before ++ (r ∷ behind))
-  among-middle r [] behind = here
-  among-middle r (q ∷ before) behind = there (among-middle r before behind)
+  pub among-middle : (r : Node) (before after : List Node) → Among r (before ++ (r ∷ after))
+  among-middle r [] after = here
+  among-middle r (q ∷ before) after = there (among-middle r before after)
 
   pub earliest-among : {ps : List Node} {r : Node} → Earliest rs ps r → Among r rs
-  earliest-among {r = r} e = rw (e .there) (among-middle r (e .before) (e .behind))
+  earliest-among {r = r} e = rw (e .there) (among-middle r (e .before) (e .after))
 
   -- a placed record is one of the records
   pub placing-among : {ps : List Node} {r : Node} → Placing rs ps → Among r ps → Among r rs
@@ -178,7 +178,7 @@ module _ (rs : List Node) {s : List ℕ} (are : IsNodes rs s) (apart : Distinct 
       is-earliest =
           record {
             before = take i rs;
-            behind = drop (suc i) rs;
+            after = drop (suc i) rs;
             there = around rs i l;
             unplaced = is-unplaced;
             ready = children-placed;

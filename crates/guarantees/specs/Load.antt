@@ -80,7 +80,7 @@ pub record NamedSlot (rs order : List Node) (table : List ℕ) (k : ℕ) (h : Li
   pub holds : Holds table (length rs) k tree
   pub placed : getD (hashes order) k [] ≡ h
 
--- words and exports are the tables before the load, words′ and exports′ those behind it
+-- words and exports are the tables before the load, words′ and exports′ those after it
 pub record Loads (file words : List ℕ) (base : ℤ) (exports words′ exports′ : List ℕ) (answer : Numbers) : Type 0 where
   pub sound : Sound file
   pub at : ℕ
@@ -99,7 +99,7 @@ pub record Loads (file words : List ℕ) (base : ℤ) (exports words′ exports�
   -- all other words stay, also those before the base
   pub before : take at words′ ≡ take at words
   pub untouched : Untouched (drop at words) 0 (drop at words′) (answer .nodes)
-  -- the word of each export is the slot of the tree that its hash names, in manifest order; the words behind them stay
+  -- the word of each export is the slot of the tree that its hash names, in manifest order; the words after them stay
   pub export-slots : (i : ℕ) → i < answer .exports →
       NamedSlot (sound .nodes) order (drop at words′) (getD exports′ i 0)
       (getD (map (λ (e : Export). e .hash) (sound .described .manifest .exports)) i [])

@@ -26,7 +26,7 @@ pub record SameSince (n m : ℕ) (v v′ : List ℕ) : Type 0 where
   pub new : HoldsFrom v m n made
   pub new′ : HoldsFrom v′ m n made
 
--- what two runs leave: v and k are our part of the word table and the frame table behind the one, v′ and k′ behind the other
+-- what two runs leave: v and k are our part of the word table and the frame table after the one, v′ and k′ after the other
 pub record SameTables (n m : ℕ) (v k v′ k′ : List ℕ) (frames : List Frame) : Type 0 where
   pub slots : SameSince n m v v′
   -- the frame tables are as long, and have sound jobs for the same frames

@@ -17,8 +17,8 @@ Ready placed r = (cs : List (List ℕ)) → IsPayload cs (r .payload) → (h : L
 -- r is the earliest unplaced record of rs whose children are all placed
 pub record Earliest (rs placed : List Node) (r : Node) : Type 0 where
   pub before : List Node
-  pub behind : List Node
-  pub there : rs ≡ before ++ (r ∷ behind)
+  pub after : List Node
+  pub there : rs ≡ before ++ (r ∷ after)
   pub unplaced : Among r placed → ⊥
   pub ready : Ready placed r
   pub first : (q : Node) → Among q before → (Among q placed → ⊥) → Ready placed q → ⊥

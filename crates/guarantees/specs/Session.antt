@@ -82,7 +82,7 @@ pub record Table : Type 0 where
   pub words : List ℕ
   pub used : ℕ
 
--- our part stands behind the words that the request brings, at base b
+-- our part stands after the words that the request brings, at base b
 abbrev pub answer : RunCall → ℕ → Table → Request → Ran
 answer call b t (to-run c) = call (c .before ++ t .words) (pos b) (c .f) (c .x) (t .used) (c .fuel) (c .jobs)
 
@@ -109,7 +109,7 @@ pub record Holding (w : List ℕ) (used : ℕ) (store : List Tree) : Type 0 wher
   pub each : HoldsFrom w used 0 store
   pub zero : Holds w used 0 leaf
 
--- the whole list, by one call, at base b in a table whose room is `most` throughout; behind it the used slots hold the
+-- the whole list, by one call, at base b in a table whose room is `most` throughout; after it the used slots hold the
 -- store
 abbrev pub AllAlike : RunCall → ℕ → ℕ → Table → List Tree → List Request → Type 0
 AllAlike call b most t store [] = Holding (t .words) (t .used) store × (room (t .words) ≡ most)
