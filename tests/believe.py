@@ -32,6 +32,7 @@ CALLS = {
 # definitions that a field of the demands determines, wherever the demands name them
 FIXED = {
     "wire/Wire": {"bigEndian": "Demand2.big-endian"},
+    "calculus/Machine": {"stopNumber": "Demand3.stop-numbers"},
     "nodes/Records": {"childrenOf": "Demand2.reads-children"},
     "table/Slots": {"room": "Demand1.room-is"},
     "table/Frames": {"frameRoom": "Demand1.job-room-is", "recordAt": "Demand1.job-words"},

@@ -6,7 +6,7 @@ use mathlib.Core.Logic.{_↔_}
 use lib.ListN.{length}
 use Rattle.calculus.specs.Tree.{Tree, leaf, stem, fork}
 use Rattle.calculus.specs.Rules.{Frame}
-use Rattle.calculus.specs.Machine.{State, start, Stop, no-fuel, no-slot, no-place, Ending, ended, stopped, Outcome, run}
+use Rattle.calculus.specs.Machine.{State, start, Stop, no-fuel, no-slot, no-place, stopNumber, Ending, ended, stopped, Outcome, run}
 use Rattle.calculus.specs.BigStep.{_·_⇓_}
 
 -- "Before a step, in this order: no fuel, stop 31; rule 1 or 2 comes next and no slot is left, stop 32; rule 4 or 7 comes next and
@@ -26,6 +26,10 @@ StopsExactly =
     (fuel free places : ℕ) (s : State) (why : Stop) →
     (run fuel free places s ≡ record { ending = stopped why (s .f) (s .x) (reverse (s .frames)); steps = 0; made = [] })
     ↔ StopsAt fuel free places (s .f) (s .x) (s .frames) why
+
+-- the numbers of the stops
+abbrev pub StopNumbers : Type 0
+StopNumbers = (stopNumber no-fuel ≡ 31) × (stopNumber no-slot ≡ 32) × (stopNumber no-place ≡ 33)
 
 -- A run that is done stays done with at least as much of everything: the same tree, steps and nodes made.
 abbrev pub DoneStays : Type 0

@@ -5,7 +5,7 @@ use lib.ListN.{drop}
 use lib.IntN.{ℤ}
 use Rattle.table.specs.Slots.{room}
 use Rattle.calculus.proofs.DoneExactly.{done-exactly}
-use Rattle.calculus.proofs.Stops.{stops-exactly}
+use Rattle.calculus.proofs.Stops.{stops-exactly, stop-numbers}
 use Rattle.table.proofs.SlotLaws.{room-long, room-is}
 use Rattle.table.proofs.FrameLaws.{job-room-is, job-words}
 use Rattle.table.proofs.SoundFrames.{one-frame-list}
@@ -128,6 +128,7 @@ demand-3 =
       one-frame-list = one-frame-list;
       done-exactly = done-exactly;
       stops-exactly = stops-exactly;
+      stop-numbers = stop-numbers;
       only-runs = only-runs;
       only-run = only-run;
     }
