@@ -31,3 +31,4 @@ pub mod Meaning
 pub mod ExportPlaces
 pub mod ExportCalls
 pub mod Skipped
+pub mod SkippedBytes
