@@ -13,7 +13,7 @@ use Rattle.calculus.specs.Machine.{Ending, ended, stopped, Outcome, step
 use Rattle.calculus.specs.Laws.{goOn, FuelCuts}
 
 -- a turn that did not stop for want of fuel
-abbrev Fuelled : Turn → Type 0
+abbrev pub Fuelled : Turn → Type 0
 Fuelled (going made s) = Unit {0}
 Fuelled (done made t) = Unit {0}
 Fuelled (stop no-fuel) = ⊥
@@ -38,7 +38,7 @@ carry-fuelled free places js (give t) = meet-fuelled [] t js
 carry-fuelled free places js (go f x) = tt
 carry-fuelled free places js (push f x j) = tested (ltb (length js) places) _ _ tt tt
 
-step-fuelled : (free places : ℕ) (s : State) → Fuelled (step free places s)
+pub step-fuelled : (free places : ℕ) (s : State) → Fuelled (step free places s)
 unfolding step
 step-fuelled free places s = carry-fuelled free places (s .frames) (rule (s .f) (s .x))
 

@@ -3,3 +3,4 @@ pub mod DoneStays
 pub mod FuelCuts
 pub mod DoneExactly
 pub mod Stops
+pub mod StepsSpent

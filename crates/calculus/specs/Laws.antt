@@ -31,6 +31,18 @@ StopsExactly =
 abbrev pub StopNumbers : Type 0
 StopNumbers = (stopNumber no-fuel ≡ 31) × (stopNumber no-slot ≡ 32) × (stopNumber no-place ≡ 33)
 
+-- a run that stopped for want of fuel
+abbrev pub RunsOut : Outcome → Type 0
+RunsOut o = (f : Tree) × (x : Tree) × (js : List Frame) × (o .ending ≡ stopped no-fuel f x js)
+
+-- "Each rule used is one step": the steps are the fuel that was spent. They are no more than there was, and all of it where it ran
+-- out; with any less the run would have stopped for want of it.
+abbrev pub StepsSpent : Type 0
+StepsSpent =
+    (fuel free places : ℕ) (s : State) →
+    (run fuel free places s .steps ≤ fuel) × (RunsOut (run fuel free places s) → run fuel free places s .steps ≡ fuel) ×
+    ((less : ℕ) → less < run fuel free places s .steps → RunsOut (run less free places s))
+
 -- A run that is done stays done with at least as much of everything: the same tree, steps and nodes made.
 abbrev pub DoneStays : Type 0
 DoneStays =

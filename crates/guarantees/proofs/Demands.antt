@@ -5,6 +5,7 @@ use lib.ListN.{drop}
 use lib.IntN.{ℤ}
 use Rattle.table.specs.Slots.{room}
 use Rattle.calculus.proofs.DoneExactly.{done-exactly}
+use Rattle.calculus.proofs.StepsSpent.{steps-spent}
 use Rattle.calculus.proofs.Stops.{stops-exactly, stop-numbers}
 use Rattle.table.proofs.SlotLaws.{room-long, room-is}
 use Rattle.table.proofs.FrameLaws.{job-room-is, job-words}
@@ -127,6 +128,7 @@ demand-3 =
       jobs-sound = jobs-sound;
       one-frame-list = one-frame-list;
       done-exactly = done-exactly;
+      steps-spent = steps-spent;
       stops-exactly = stops-exactly;
       stop-numbers = stop-numbers;
       only-runs = only-runs;

@@ -131,8 +131,10 @@ pub record Demand3 : Type 0 where
   -- the jobs that a run leaves are sound, and sound jobs stand for one list of frames
   pub jobs-sound : JobsSound
   pub one-frame-list : OneFrameList
-  -- the machine is done just where the seven rules say so, and stops just where document 01 says, with its numbers
+  -- the machine is done just where the seven rules say so, its steps are the fuel spent, and it stops just where document 01
+  -- says, with its numbers
   pub done-exactly : machine.DoneExactly
+  pub steps-spent : machine.StepsSpent
   pub stops-exactly : machine.StopsExactly
   pub stop-numbers : machine.StopNumbers
   -- nothing is left open but which of two slots with one tree is named: no other call keeps these promises, neither of all

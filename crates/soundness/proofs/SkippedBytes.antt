@@ -82,4 +82,4 @@ skipped-bytes before s t after h es dir same inside apart =
     moved s t l e q (inl h) i = section-front i before (s ++ after) (t ++ after) refl h
     moved s t l e q (inr h) i =
         rw append-assoc at (section-back i (before ++ s) (before ++ t) after (sym (append-assoc before s after))
-        (rw length-append h) (rw (length-append, length-append) (omega arith)))
+        (rw (length-append before s) h) (rw (length-append before s, length-append before t) (omega arith)))
