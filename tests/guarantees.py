@@ -5,15 +5,15 @@
 
 Each page is one table, with headings between groups of rows. What stands in `..` in a row is a reference, by its column:
 
-    Statement   crate/Module.Name       a declaration of crates/crate/specs/Module.antt, or a field Demand1.name of the demands
+    Statement   crate/Module.Name       a declaration of crates/crate/specs/Module.antt, or a field Demand1.name of a record of RECORDS
     Definition  crate/Module.name       a declaration there; crate/Module.Name.part is a constructor or a field of it
     Function    crate::module::name     a function or method with a contract, a constant or a type of crates/crate/src; or a path
     Proof       crate/Module.name       a `pub name : ..` of crates/crate/proofs/Module.antt
     Edits       crate: label, label     files of crates/crate/must-fail
 
 It fails unless every reference is there; each statement has in its row a proof of that type, the statement itself or applied to a call,
-and each proof of a declared statement has that in its row; every must-fail edit stands in just one row; every field of the
-demands, every statement that is proved, every function that is exported for C and every public call stands in some row; and none of these
+and each proof of a declared statement has that in its row; every must-fail edit stands in just one row; every field of those
+records, every statement that is proved, every function that is exported for C and every public call stands in some row; and none of these
 functions has a `requires`, or a contract whose definition gets the arguments in another order than the function.
 
 Then the same is asked of pages and sources that are wrong, each in one way; the test fails if one of them passes.
@@ -26,7 +26,8 @@ import sys
 import antt
 
 COLUMNS = ["Document 01", "Statement", "Definition", "Function", "Proof", "Edits"]
-DEMANDS = "crates/guarantees/specs/Demands.antt"
+# files whose records are statements: the three demands, and what closes them
+RECORDS = ["crates/guarantees/specs/Demands.antt", "crates/guarantees/specs/Closing.antt"]
 PUBLIC = [
     "loader::load",
     "engine::run",
@@ -58,12 +59,12 @@ def proofs_of(path, text):
 
 
 @functools.cache
-def demands_of(text):
-    """Each field of the records `Demand..`: its name with the record's, and its type."""
+def fields_of(path, text):
+    """Each field of the records of a file: its name with the record's, and its file and its type."""
     fields = {}
-    for record, body in re.findall(r"^pub record (Demand\w*) : .*\n((?:  .*\n|\n)*)", text, re.M):
+    for record, body in re.findall(r"^pub record (\w+) : Type 0 where\n((?:  .*\n|\n)*)", text, re.M):
         for name, kind in re.findall(r"^  pub (\S+) :((?:.*\n)(?:   +.*\n)*)", body, re.M):
-            fields[f"{record}.{name}"] = kind.split()
+            fields[f"{record}.{name}"] = path, kind.split()
     return fields
 
 
@@ -71,7 +72,7 @@ class Tree:
     def __init__(self, texts):
         self.texts = texts
         self.specs = antt.Specs({p: t for p, t in texts.items() if re.match(r"crates/\w+/specs/.*\.antt", p)})
-        self.fields = demands_of(texts.get(DEMANDS, ""))
+        self.fields = {f: found for path in RECORDS for f, found in fields_of(path, texts.get(path, "")).items()}
         self.edits = {tuple(re.fullmatch(r"crates/(\w+)/must-fail/(.+)\.edit", p).groups()) for p in texts if p.endswith(".edit")}
         self.proved = {}
         for path, text in texts.items():
@@ -90,15 +91,22 @@ class Tree:
         item = (crate, module) in self.specs.modules and self.specs.modules[crate, module].items.get(name)
         return f"{crate}/{module}.{name}" if item else None
 
-    def field_statement(self, field):
-        module = self.specs.modules["guarantees", "Demands"]
-        own = {name: ("guarantees", "Demands", name) for name in module.items}
-        return self.statement(self.fields[field], module.brought | own, module.aliases)
+    def field_module(self, field):
+        return next(m for m in self.specs.modules.values() if m.path == self.fields[field][0])
 
-    def field_line(self, field):
+    def field_statement(self, field):
+        module = self.field_module(field)
+        own = {name: (module.crate, module.name, name) for name in module.items}
+        return self.statement(self.fields[field][1], module.brought | own, module.aliases)
+
+    def field_record(self, field):
+        return f"{self.field_module(field)}.{field.split('.')[0]}"
+
+    def field_place(self, field):
         record, name = field.split(".")
-        text = self.texts[DEMANDS]
-        return text[: text.index(f"  pub {name} :", text.index(f"pub record {record} "))].count("\n") + 1
+        path = self.fields[field][0]
+        text = self.texts[path]
+        return f"{path}:{text[: text.index(f'  pub {name} :', text.index(f'pub record {record} '))].count(chr(10)) + 1}"
 
     # ---- references: each answers what is wrong with it, or None
 
@@ -232,9 +240,9 @@ def faults(texts):
         for column, ask in look.items():
             for name in row.names[column]:
                 standing[column].setdefault(name, row)
-                if column == "Statement" and re.match(r"Demand\w*\.", name):
+                if column == "Statement" and "/" not in name:
                     if name not in tree.fields:
-                        found.append(f"{row.place}: {name}: {DEMANDS} has no such field")
+                        found.append(f"{row.place}: {name}: there is no such field in {' or '.join(RECORDS)}")
                 elif wrong := ask(name):
                     found.append(f"{row.place}: {name}: {wrong}")
         found += joined(tree, row)
@@ -247,7 +255,7 @@ def faults(texts):
                 standing["Edits"][edit] = row
     for crate, label in sorted(tree.edits - set(standing["Edits"])):
         found.append(f"crates/{crate}/must-fail/{label}.edit: stands in no row")
-    found += [f"{DEMANDS}:{tree.field_line(field)}: {field}: stands in no row" for field in tree.fields if field not in standing["Statement"]]
+    found += [f"{tree.field_place(field)}: {field}: stands in no row" for field in tree.fields if field not in standing["Statement"]]
     for proof, statement in tree.proved.items():
         crate, module, name = re.fullmatch(r"(\w+)/(.+)\.(\S+)", statement).groups()
         item = tree.specs.modules[crate, module].items[name]
@@ -275,13 +283,13 @@ def joined(tree, row):
     fields = [s for s in row.names["Statement"] if s in tree.fields]
     for statement in row.names["Statement"]:
         if statement in fields:
-            record = f"guarantees/Demands.{statement.split('.')[0]}"
+            record = tree.field_record(statement)
             if record not in proofs and tree.field_statement(statement) not in proofs:
                 found.append(f"{row.place}: {statement}: no proof of this row is one of {tree.field_statement(statement) or record}")
         elif not tree.declaration(statement) and statement not in proofs:
             found.append(f"{row.place}: {statement}: no proof of this row has this type")
     for statement, proof in proofs.items():
-        of_field = any(statement in (f"guarantees/Demands.{f.split('.')[0]}", tree.field_statement(f)) for f in fields)
+        of_field = any(statement in (tree.field_record(f), tree.field_statement(f)) for f in fields)
         if statement not in row.names["Statement"] + row.names["Definition"] and not of_field:
             found.append(f"{row.place}: {proof}: proves {statement}, which does not stand in this row")
     return found
@@ -315,13 +323,14 @@ def wrong(texts):
     twice = in_row(other, f"`{other.names['Edits'][0]}`", f"`{other.names['Edits'][0]}`, `{crate}: {label}`")
     yield "an edit in two rows", twice, f"{crate}: {label}: stands in {row.place} too"
     yield "a path that is not there", {page: texts[page] + "\nSee docs/NOWHERE.md.\n"}, "there is no docs/NOWHERE.md"
-    field = next(iter(tree.fields))
-    yield "a field left out", {p: texts[p].replace(f"`{field}`", "") for p in pages(texts)}, f"{field}: stands in no row"
+    for field in (next(f for f in tree.fields if tree.fields[f][0] == path) for path in RECORDS):
+        yield f"{field} left out", {p: texts[p].replace(f"`{field}`", "") for p in pages(texts)}, f"{field}: stands in no row"
 
     # what it is about
     yield "a new edit", {f"crates/{crate}/must-fail/new.edit": ""}, f"crates/{crate}/must-fail/new.edit: stands in no row"
-    record = f"pub record {field.split('.')[0]} : Type 0 where\n"
-    yield "a new field", {DEMANDS: texts[DEMANDS].replace(record, record + "  pub new : ℕ\n")}, f"{field.split('.')[0]}.new: stands in no row"
+    for path in RECORDS:
+        record = re.search(r"^pub record (\w+) : Type 0 where\n", texts[path], re.M)
+        yield f"a new field of {record[1]}", {path: texts[path].replace(record[0], record[0] + "  pub new : ℕ\n")}, f"{record[1]}.new: stands in no row"
     proof, statement = next((p, s) for p, s in tree.proved.items() for r in rows if p in r.names["Proof"] and s in r.names["Statement"])
     crate, module, name = re.fullmatch(r"(\w+)/(.+)\.(\S+)", proof).groups()
     path = f"crates/{crate}/proofs/{module.replace('.', '/')}.antt"

@@ -13,8 +13,7 @@ pub record Numbers : Type 0 where
   pub used : ℕ
   pub waiting : ℕ
 
--- numbers not named are 0: a refusal answers its number; done answers 0, the result's slot, steps and used count; a
--- stop answers its number, the f and x still to be applied, steps, used count and how many frames wait
+-- numbers not named are 0; `slot` is the result's, f and x are those still to be applied
 abbrev pub numbers : RunAnswer → Numbers
 numbers (Refused n) = record { number = n; slot = pos 0; f = pos 0; x = pos 0; steps = 0; used = 0; waiting = 0 }
 numbers (Done slot steps used) =

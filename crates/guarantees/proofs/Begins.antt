@@ -24,7 +24,7 @@ use Rattle.engine.specs.declared.RunAnswer.the-variants.{Refused}
 use Rattle.engine.specs.Run.{Ran, ran, run}
 use Rattle.engine.specs.Answer.{numbers}
 use Rattle.guarantees.specs.Agrees.{Agrees}
-use Rattle.guarantees.specs.Run.{RunCall, Simulates, refusal, started as let-start}
+use Rattle.guarantees.specs.Run.{RunCall, RunSimulates, refusal, started as let-start}
 use Rattle.guarantees.specs.Run.{OutOfTable, base-negative, base-past, above-room, Misplaced, negative, not-used, Damaged}
 use Rattle.guarantees.proofs.RunSimulates.{run-simulates}
 use Rattle.guarantees.proofs.Verdict.{out, misplaced, damaged, started, Judged, verdict}
@@ -107,7 +107,7 @@ module _ {w : List ℕ} {base f x : ℤ} {used : ℕ} (s : Begins w base f x use
       machine.run fuel (room (drop (s .at) w) - used) (frameRoom j) (machine.start (s .f-tree) (s .x-tree))
 
   -- so does any call that simulates it
-  pub comes : (call : RunCall) → Simulates call
+  pub comes : (call : RunCall) → RunSimulates call
       → (v : List ℕ) × (k : List ℕ) × (a : RunAnswer) × (call w base f x used fuel j ≡ ran (take (s .at) w ++ v) k a)
       × Agrees (drop (s .at) w) used j v k (numbers a) outcome
   comes call simulates =

@@ -28,3 +28,4 @@ pub mod JobsSound
 pub mod OnlyRun
 pub mod OnlySession
 pub mod Demands
+pub mod Closing

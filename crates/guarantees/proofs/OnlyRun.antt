@@ -11,13 +11,13 @@ use Rattle.calculus.specs.Tree.{Tree}
 use Rattle.calculus.specs.Rules.{Frame}
 use Rattle.calculus.specs.Machine.{Outcome}
 use Rattle.table.specs.Holds.{StandFrom}
-use Rattle.table.proofs.HoldsLaws.{from-kept, from-append, untouched-refl}
+use Rattle.table.proofs.HoldsLaws.{from-kept, from-append, untouched-refl, untouched-kept}
 use Rattle.table.proofs.SoundFrames.{standing-sound}
 use Rattle.engine.specs.declared.RunAnswer.the-variants.{Refused}
 use Rattle.engine.specs.Run.{Ran, ran, run}
 use Rattle.engine.specs.Answer.{Numbers}
 use Rattle.guarantees.specs.Agrees.{Leaves, Agrees, agrees-done, agrees-stop}
-use Rattle.guarantees.specs.Run.{RunCall, Simulates, RefusesExactly, RefusedWith}
+use Rattle.guarantees.specs.Run.{RunCall, RunSimulates, RefusedExactly, RefusedWith}
 use Rattle.guarantees.specs.OnlyRun.{SameSince, SameTables, SameEnd, same-done, same-stop}
 use Rattle.guarantees.specs.OnlyRun.{SameCall, both-refused, both-ended, OnlyRun}
 use Rattle.guarantees.proofs.RunSimulates.{run-simulates}
@@ -50,8 +50,8 @@ module _ {w w′ j v k v′ k′ : List ℕ} {n q : ℕ} (s : SameSince n q w w�
         };
         made = s .made ++ made;
         count = simp length-append (omega (arith, s .count));
-        new = from-append v m n q (s .made) made (s .count) (from-kept (l .old) n (s .made) (s .new)) (l .new);
-        new′ = from-append v′ m n q (s .made) made (s .count) (from-kept (l′ .old) n (s .made) (s .new′)) (l′ .new);
+        new = from-append v m n q (s .made) made (s .count) (from-kept (untouched-kept (omega arith) a) n (s .made) (s .new)) (l .new);
+        new′ = from-append v′ m n q (s .made) made (s .count) (from-kept (untouched-kept (omega arith) b) n (s .made) (s .new′)) (l′ .new);
       }
 
   same-tables : {made : List Tree} (frames : List Frame)
@@ -78,7 +78,7 @@ module _ {w w′ j v k v′ k′ : List ℕ} {n q : ℕ} (s : SameSince n q w w�
 
 -- ---- a call against the run call
 
-module _ (call : RunCall) (refuses : RefusesExactly call) (simulates : Simulates call) (w j : List ℕ) (base f x : ℤ)
+module _ (call : RunCall) (refuses : RefusedExactly call) (simulates : RunSimulates call) (w j : List ℕ) (base f x : ℤ)
     (used fuel : ℕ) where
   abbrev other : Ran
   other = call w base f x used fuel j

@@ -6,7 +6,7 @@ use mathlib.Core.List.{List}
 use mathlib.Core.Logic.{_↔_, inl, inr, ⊎-elim}
 use native.Mathlib.Omega.{arith}
 use Rattle.engine.specs.declared.RunAnswer.the-variants.{Refused}
-use Rattle.engine.specs.Run.{Ran, ran}
+use Rattle.engine.specs.Run.{Ran, ran, run}
 use Rattle.engine.specs.Answer.{Numbers}
 use Rattle.guarantees.specs.Run.{started as let-start, refusal, RefusedWith, RefusedExactly}
 use Rattle.guarantees.proofs.Verdict.{Unrefused, unrefused, Verdict, out, misplaced, damaged, started, verdict}
@@ -38,7 +38,7 @@ module _ (w j : List ℕ) {A B C : Type 0} where
   exactly-24 (damaged a b c) = (λ _. (a, b, c), λ _. (refl, refl, refl))
   exactly-24 {r} (started a b c h) = (begun w j 24 r refl (unrefused r h), λ k. absurd (c (k .2)))
 
-pub refused-exactly : RefusedExactly
+pub refused-exactly : RefusedExactly run
 refused-exactly w j base f x used fuel =
     let v = verdict w j base f x used fuel in
     let last = exactly-24 w j v in (

@@ -19,7 +19,7 @@ use Rattle.table.proofs.FrameLaws.{frame-room-long, length-cleared, zero-cleare
 use Rattle.table.proofs.HoldsLaws.{held-below}
 use Rattle.engine.specs.declared.step.State.{State}
 use Rattle.engine.specs.declared.RunAnswer.{RunAnswer}
-use Rattle.engine.specs.Run.{Ran, ran, behind, drive, admitAt, admit, start, runTail}
+use Rattle.engine.specs.Run.{Ran, ran, behind, drive, admitAt, admit, start, runTail, run}
 use Rattle.engine.specs.Answer.{numbers}
 use Rattle.guarantees.specs.Agrees.{Agrees}
 use Rattle.guarantees.specs.Run.{RunSimulates}
@@ -63,7 +63,7 @@ parts : (before w j : List ℕ) (used : ℕ) (r : Ran) (o : Outcome) → Comes w
 parts before w j used (ran v k a) o h = (v, k, a, refl, h)
 
 -- a run on the whole table
-pub run-simulates : RunSimulates
+pub run-simulates : RunSimulates run
 run-simulates before w j used f x fuel ft xt good hf hx =
     rw (run-behind before w j (pos f) (pos x) used fuel)
     (parts before w j used (runTail w (pos f) (pos x) used fuel j) _

@@ -1,14 +1,13 @@
 -- One request goes alike and leaves used slots that hold the grown store; a list of them by induction.
 use Prim.Native.Nat.{ℕ, _+_, _-_, _≤_, _<_}
 use mathlib.Core.Path.{_≡_, refl, sym, ap, _∙_}
-use mathlib.Core.Bool.{Bool, true, _||_, cond}
+use mathlib.Core.Bool.{Bool, true, cond}
 use mathlib.Core.Logic.{_⊎_, inl, inr}
 use mathlib.Core.List.{List, [], _∷_, _++_}
 use native.Mathlib.Omega.{arith}
 use native.Mathlib.Decide.{decLt}
 use lib.ListN.{length, getD, drop, length-append}
 use lib.Seq.{drop-append-seam}
-use lib.Dec.{eqb, leb}
 use lib.IntN.{ℤ, pos, negsuc}
 use borrow.Author.Tests.{lt-ltb, le-ltb}
 use Rattle.calculus.specs.Tree.{Tree, leaf}
@@ -17,12 +16,12 @@ use Rattle.table.specs.Slots.{room}
 use Rattle.table.specs.Frames.{frameRoom}
 use Rattle.table.specs.Holds.{Holds}
 use Rattle.table.proofs.SlotLaws.{room-long}
-use Rattle.table.proofs.HoldsLaws.{from-kept, from-at, from-append}
+use Rattle.table.proofs.HoldsLaws.{from-kept, from-at, from-append, untouched-kept}
 use Rattle.engine.specs.declared.RunAnswer.{RunAnswer}
 use Rattle.engine.specs.Run.{Ran, ran}
 use Rattle.engine.specs.Answer.{Numbers, numbers}
 use Rattle.guarantees.specs.Agrees.{Leaves, Agrees, agrees-done, agrees-stop}
-use Rattle.guarantees.specs.Run.{RunCall, Simulates, RefusesExactly, RefusedWith, started}
+use Rattle.guarantees.specs.Run.{RunCall, RunSimulates, RefusedExactly, refusal, RefusedWith, started}
 use Rattle.guarantees.specs.Run.{OutOfTable, base-past, none-used, above-room, Misplaced, negative, not-used}
 use Rattle.guarantees.specs.Session.{ToRun, Request, to-run, Bring, Found, found, nowhere, lookUp, Reply, refused, answered}
 use Rattle.guarantees.specs.Session.{replyTo, reply, storeAfter, Table, answer, tableAfter}
@@ -49,12 +48,12 @@ module _ {w j v k : List ℕ} {n : ℕ} where
         long = simp length-append (omega (arith, good .long));
         each =
             from-append v (n + length made) 0 n store made (omega (arith, good .long))
-            (from-kept (l .old) 0 store (good .each)) (l .new);
+            (from-kept (untouched-kept (omega arith) (l .untouched)) 0 store (good .each)) (l .new);
         zero = l .zero;
       }
 
 -- a run that agrees was let start
-stop-starts : (why : Stop) → eqb (stopNumber why) 0 || leb 31 (stopNumber why) ≡ true
+stop-starts : (why : Stop) → started (refusal (stopNumber why)) ≡ true
 stop-starts no-fuel = refl
 stop-starts no-slot = refl
 stop-starts no-place = refl
@@ -103,7 +102,7 @@ module _ (w : List ℕ) (n : ℕ) (store : List Tree) (good : Holding w n store)
     holding : Holding (tableAfter b table r .words) (tableAfter b table r .used) (storeAfter store p)
     same-room : room (tableAfter b table r .words) ≡ room w
 
-  module _ (call : RunCall) (refuses : RefusesExactly call) (simulates : Simulates call) (c : ToRun) where
+  module _ (call : RunCall) (refuses : RefusedExactly call) (simulates : RunSimulates call) (c : ToRun) where
     abbrev b : ℕ
     b = length (c .before)
 
@@ -157,7 +156,7 @@ module _ (w : List ℕ) (n : ℕ) (store : List Tree) (good : Holding w n store)
     goes : Goes b (to-run c) (answer call b table (to-run c)) (reply (room w) store (to-run c))
     goes = goes-at (c .f) (c .x) (seen (c .f)) (seen (c .x))
 
-module _ (call : RunCall) (refuses : RefusesExactly call) (simulates : Simulates call) (b : ℕ) where
+module _ (call : RunCall) (refuses : RefusedExactly call) (simulates : RunSimulates call) (b : ℕ) where
   all-alike : (cs : List Request) (w : List ℕ) (n most : ℕ) (store : List Tree)
       → Holding w n store → most ≡ room w → Bring b cs
       → AllAlike call b most (record { words = w; used = n }) store cs

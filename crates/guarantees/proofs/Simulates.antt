@@ -27,8 +27,8 @@ use Rattle.table.proofs.SlotLaws.{room-long}
 use Rattle.table.proofs.SoundLaws.{slots-sound, sound-next}
 use Rattle.table.proofs.FrameLaws.{frame-room-long, frame-is, length-put-frame, record-here, record-other, zero-over}
 use Rattle.table.proofs.FrameLaws.{length-drop, record-dropped, zero-drop, stands-kept}
-use Rattle.table.proofs.HoldsLaws.{held-below, leaf-view, stem-view, fork-view, put-keeps, put-stem, put-fork}
-use Rattle.table.proofs.HoldsLaws.{zero-leaf, from-kept, from-append, untouched-refl, untouched-put, untouched-trans}
+use Rattle.table.proofs.HoldsLaws.{held-below, leaf-view, stem-view, fork-view, put-stem, put-fork}
+use Rattle.table.proofs.HoldsLaws.{zero-leaf, from-kept, from-append, untouched-refl, untouched-put, untouched-trans, untouched-kept}
 use Rattle.engine.specs.declared.step.State.{State}
 use Rattle.engine.specs.declared.step.Status.the-variants.{Going, Done as IsDone, NoSlot, NoPlace}
 use Rattle.engine.specs.declared.RunAnswer.the-variants.{Done, Stopped}
@@ -105,16 +105,15 @@ pub record Sim (w j : List ℕ) (s : State) (p : machine.State) : Type 0 where
 record Grown (w : List ℕ) (n : ℕ) (v : List ℕ) (m : ℕ) (made : List Tree) : Type 0 where
   count : m ≡ n + length made
   new : HoldsFrom v m n made
-  old : Kept w n v m
   untouched : Untouched w n v m
 
 grown-none : (w : List ℕ) (n : ℕ) → Grown w n w n []
-grown-none w n = record { count = omega arith; new = tt; old = λ i t h. h; untouched = untouched-refl w n }
+grown-none w n = record { count = omega arith; new = tt; untouched = untouched-refl w n }
 
 grown-one : (w : List ℕ) (n : ℕ) (node : Node) (t : Tree) → Holds (putNode w n node) (n + 1) n t →
     Grown w n (putNode w n node) (n + 1) (t ∷ [])
 grown-one w n node t h =
-    record { count = omega arith; new = (h, tt); old = put-keeps w n node; untouched = untouched-put w n node }
+    record { count = omega arith; new = (h, tt); untouched = untouched-put w n node }
 
 -- a table that has grown, sound, with no frame written or dropped
 leaves-here : {w v : List ℕ} {n m : ℕ} {made : List Tree} (j : List ℕ) {waiting : ℕ} → Grown w n v m made → Sound v m →
@@ -123,7 +122,6 @@ leaves-here {v = v} {m = m} j grown good some places above =
     let slots = slots-sound v m .0 good in
     record {
       new = grown .new;
-      old = grown .old;
       untouched = grown .untouched;
       slots = slots;
       zero = zero-leaf v m slots some;
@@ -258,7 +256,7 @@ module _ (w j : List ℕ) (s : State) (p : machine.State) (sim : Sim w j s p) wh
             let good = sound-next w n node (sim .slots) g below inner in
             rw (lt-ltb n (room w) g, lt-ltb 0 (room w - n) (omega arith))
             (meets w j s v (n + 1) (t ∷ []) grown good n t (put g) (s .waiting) (p .frames)
-            (frames-kept w n j (grown .old) (s .waiting) (p .frames) (sim .frames)) (sim .fits) (sim .above))
+            (frames-kept w n j (untouched-kept (omega (arith, grown .count)) (grown .untouched)) (s .waiting) (p .frames) (sim .frames)) (sim .fits) (sim .above))
       ]
   carries a b (asks-give {i = i} {t = t} h) =
       meets w j s w (s .used) [] (grown-none w (s .used)) (sim .slots) i t h
@@ -336,8 +334,7 @@ module _ (w j v k : List ℕ) (n m : ℕ) (made : List Tree) (grown : Grown w n 
       Leaves w n j u q i (made ++ more) waiting
   leaves-on u i q waiting more h l =
       record {
-        new = from-append u q n m made more (sym (grown .count)) (from-kept (l .old) n made (grown .new)) (l .new);
-        old = λ a t g. l .old a t (grown .old a t g);
+        new = from-append u q n m made more (sym (grown .count)) (from-kept (untouched-kept h (l .untouched)) n made (grown .new)) (l .new);
         untouched = untouched-trans (omega (arith, grown .count)) h (grown .untouched) (l .untouched);
         slots = l .slots;
         zero = l .zero;

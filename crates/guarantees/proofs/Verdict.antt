@@ -38,7 +38,7 @@ use Rattle.guarantees.specs.Run.{Misplaced, negative, not-used, Damaged}
 abbrev pub Ended : Ran → Type 0
 Ended (ran w j (Refused n)) = ⊥
 Ended (ran w j (Done slot steps used)) = Unit {0}
-Ended (ran w j (Stopped n f x steps used waiting)) = 31 ≤ n
+Ended (ran w j (Stopped n f x steps used waiting)) = (31 ≤ n) × (n ≤ 33)
 
 -- its numbers are those of a run that was let start
 abbrev pub Unrefused : Ran → Type 0
@@ -47,7 +47,7 @@ Unrefused (ran w j a) = let-start (numbers a) ≡ true
 pub unrefused : (r : Ran) → Ended r → Unrefused r
 unrefused (ran w j (Refused n)) h = absurd h
 unrefused (ran w j (Done slot steps used)) h = refl
-unrefused (ran w j (Stopped n f x steps used waiting)) h = rw (le-leb 31 n h, or-true)
+unrefused (ran w j (Stopped n f x steps used waiting)) h = rw (le-leb 31 n (h .0), le-leb n 33 (h .1), or-true)
 
 behind-ended : (before : List ℕ) (r : Ran) → Ended r → Ended (behind before r)
 behind-ended before (ran w j (Refused n)) h = h
@@ -59,15 +59,15 @@ module _ (rest : ℕ → List ℕ → List ℕ → State → Ran)
   status-ended : (w j : List ℕ) (next : State) (t : Status) → Ended (resumeAs rest k s w j next t)
   status-ended w j next Going = goes (suc k) w j next
   status-ended w j next IsDone = tt
-  status-ended w j next NoSlot = omega arith
-  status-ended w j next NoPlace = omega arith
+  status-ended w j next NoSlot = (omega arith, omega arith)
+  status-ended w j next NoPlace = (omega arith, omega arith)
 
   resume-ended : (t : Stepped) → Ended (resume rest k s t)
   resume-ended (at w j t) = status-ended w j (t .state) (t .status)
 
 drive-ended : (fuel k : ℕ) (w j : List ℕ) (s : State) → Ended (drive fuel k w j s)
 unfolding drive
-drive-ended zero k w j s = omega arith
+drive-ended zero k w j s = (omega arith, omega arith)
 drive-ended (suc n) k w j s = resume-ended (drive n) (drive-ended n) k s (step w j s)
 
 start-ended : (before w j : List ℕ) (fuel : ℕ) (s : State) → Ended (behind before (start w fuel j (Start s)))

@@ -9,7 +9,7 @@ use Rattle.calculus.specs.Rules.{Frame}
 use Rattle.calculus.specs.Machine.{Stop, stopNumber, ended, stopped, Outcome}
 use Rattle.table.specs.Frames.{frameRoom}
 use Rattle.table.specs.Sound.{SoundSlots}
-use Rattle.table.specs.Holds.{Holds, HoldsFrom, Kept, Untouched, StandFrom, ZeroFrom}
+use Rattle.table.specs.Holds.{Holds, HoldsFrom, Untouched, StandFrom, ZeroFrom}
 use Rattle.engine.specs.Answer.{Numbers}
 
 -- What a run leaves in the two tables. w is our part of the word table before it, of which n slots are used, and j the
@@ -17,9 +17,7 @@ use Rattle.engine.specs.Answer.{Numbers}
 pub record Leaves (w : List ℕ) (n : ℕ) (j v : List ℕ) (m : ℕ) (k : List ℕ) (made : List Tree) (waiting : ℕ) : Type 0 where
   -- the new slots hold the nodes made, in the order of making
   pub new : HoldsFrom v m n made
-  -- the old slots hold what they held
-  pub old : Kept w n v m
-  -- all other words stay
+  -- all other words stay, so that the old slots hold what they held
   pub untouched : Untouched w n v m
   -- the used slots are sound, and slot zero is the leaf
   pub slots : SoundSlots v m
@@ -39,9 +37,8 @@ abbrev pub stoppedWith : ℕ → ℕ → ℕ → ℕ → ℕ → ℕ → Numbers
 stoppedWith number f x steps used waiting =
     record { number = number; slot = pos 0; f = pos f; x = pos x; steps = steps; used = used; waiting = waiting }
 
--- The tables and numbers that a run leaves and answers, and the machine's outcome: the same ending, number and steps;
--- a used count that grows by the nodes made; slots and frames that stand for the machine's trees and frames, these
--- oldest first.
+-- What a run leaves and answers, and the machine's outcome: the same ending, number and steps; a used count that grows by the
+-- nodes made; slots that hold the machine's trees, and jobs that stand for its frames, oldest first.
 pub data Agrees (w : List ℕ) (n : ℕ) (j v k : List ℕ) : Numbers → Outcome → Type 0 where
   agrees-done : {slot steps : ℕ} {t : Tree} {made : List Tree}
       → Holds v (n + length made) slot t

@@ -7,31 +7,27 @@ use mathlib.Core.List.{List}
 use lib.ListN.{drop}
 use lib.IntN.{ℤ, pos}
 use Rattle.calculus.specs.Tree.{leaf}
-use Rattle.calculus.specs.Laws as machine
+use Rattle.calculus.specs.Laws.{StopNumbers}
 use Rattle.table.specs.Slots.{room, RoomIs}
 use Rattle.table.specs.Frames.{JobRoomIs, JobWords}
 use Rattle.table.specs.Holds.{Holds}
-use Rattle.table.specs.SoundFrames.{OneFrameList}
 use Rattle.engine.specs.declared.RunAnswer.{RunAnswer}
 use Rattle.engine.specs.Run.{ran, run}
 use Rattle.engine.specs.Answer as engine
-use Rattle.soundness.specs.Meaning as checks
 use Rattle.bundle.specs.Checks.{refusal}
-use Rattle.soundness.specs.Applies.{NumberExactly}
 use Rattle.bundle.specs.Exports.{namePart}
-use Rattle.soundness.specs.ExportCalls.{NameByIndex, NameRefused, NameBytes, NameInFile, OnlyName}
-use Rattle.soundness.specs.ExportCalls.{index, IndexByName, NoSuchName, EmptyName, IndexRefused, IndexTells, OnlyIndex}
-use Rattle.soundness.specs.Skipped.{SkippedUnread}
+use Rattle.soundness.specs.Meaning as checks
+use Rattle.soundness.specs.Applies.{NumberExactly}
+use Rattle.soundness.specs.ExportCalls.{NameByIndex, NameRefused, NameBytes, NameInFile}
+use Rattle.soundness.specs.ExportCalls.{index, IndexByName, NoSuchName, EmptyName, IndexRefused}
 use Rattle.soundness.specs.FileMeaning.{BigEndian}
-use Rattle.soundness.specs.NodesMeaning.{ReadsChildren, HashedBytes, LongestReached}
+use Rattle.soundness.specs.NodesMeaning.{ReadsChildren}
 use Rattle.loader.specs.declared.LoadAnswer.{LoadAnswer}
 use Rattle.loader.specs.Answer.{numbers}
 use Rattle.loader.specs.Load.{loaded, load}
-use Rattle.guarantees.specs.Run.{RunCall, RunSimulates, started, RefusalKeeps, NumberTells, RefusedExactly, JobsSound, BaseBlind, DoneStays}
-use Rattle.guarantees.specs.OnlyRun.{OnlyRun, SameAll}
-use Rattle.guarantees.specs.Session.{Request, Bring, Table, AllAlike, SessionBlind}
-use Rattle.guarantees.specs.Load.{AcceptedExactly, LoadNumberExactly, LoadRefusalKeeps, OnlyLoad}
-use Rattle.guarantees.specs.Load.{Loads, OneOrder, OneStart, LoadBlind, LoadSkips}
+use Rattle.guarantees.specs.Run.{RunCall, RunSimulates, started, RefusalKeeps, RefusedExactly, JobsSound, BaseBlind, DoneStays}
+use Rattle.guarantees.specs.Session.{Request, Bring, AllAlike}
+use Rattle.guarantees.specs.Load.{AcceptedExactly, LoadNumberExactly, LoadRefusalKeeps, Loads, LoadBlind}
 
 -- slot zero of the table from the base on, a slot in its room, holds the leaf
 abbrev pub ZeroIsLeaf : ℤ → List ℕ → Type 0
@@ -42,9 +38,8 @@ ZeroIsLeaf base words = (b : ℕ) × (base ≡ pos b) × Holds (drop b words) (r
 pub record Demand1 : Type 0 where
   -- bad input is answered with a number from the list, and a refusal changes no lent word
   pub load-kept : LoadRefusalKeeps load
-  pub run-refused : RefusedExactly
+  pub run-refused : RefusedExactly run
   pub run-kept : RefusalKeeps
-  pub run-tells : NumberTells
   -- a call asked for a name answers the part of the file that it is, (0, 0) by 1 to 14 or where there is no such index
   pub name-by-index : NameByIndex namePart
   pub name-refused : NameRefused namePart
@@ -55,7 +50,6 @@ pub record Demand1 : Type 0 where
   pub no-such-name : NoSuchName index
   pub empty-name : EmptyName index
   pub index-refused : IndexRefused index
-  pub index-tells : IndexTells
   -- nothing before our part of the table is written or looked at
   pub load-blind : LoadBlind
   pub run-blind : BaseBlind
@@ -72,28 +66,14 @@ pub record Demand1 : Type 0 where
 -- 2. A bundle is accepted exactly when it is within the limits, fits the lent tables and is sound by the format, the digests and
 -- the node hashes. Otherwise the answer is the lowest number that applies.
 pub record Demand2 : Type 0 where
-  -- of the load
+  -- of the load; of the check alone, 1 to 20
   pub load-accepted : AcceptedExactly
   pub load-by-number : LoadNumberExactly load
-  -- of the check alone, 1 to 20; sound is that none of these applies, described that none of 1 to 14 does
   pub check-accepted : checks.AcceptedExactly
   pub check-by-number : NumberExactly refusal
-  pub sound-exactly : checks.SoundExactly
-  pub described : checks.DescribedExactly
-  -- a section of any other type is skipped unread
-  pub skipped-unread : SkippedUnread
-  pub load-skips : LoadSkips
-  -- numbers are big-endian; what a payload names is read; how much is hashed of it; how long the nodes section can be
+  -- numbers are big-endian; what a payload names is read
   pub big-endian : BigEndian
   pub reads-children : ReadsChildren
-  pub hashed-bytes : HashedBytes
-  pub longest-nodes : checks.LongestNodes
-  pub longest-reached : LongestReached
-  -- nothing is left open: no other call keeps these promises and, where it is a load, leaves the bundle's trees
-  pub only-load : OnlyLoad
-  pub only-check : checks.OnlyCheck
-  pub only-name : OnlyName
-  pub only-index : OnlyIndex
 
 -- 3. For every accepted bundle and every list of runs after it, refused ones included, the runs go as the bundle's own trees
 -- do on the reference machine. One claim about the whole list: from the table and the used count that the load left, any
@@ -107,37 +87,12 @@ AllRuns call =
     AllAlike call (l .at) (room (drop (l .at) words)) (record { words = drop (l .at) words′; used = numbers a .nodes })
     (l .store) requests)
 
--- A call for which this holds goes the same as the run call over every such list.
-abbrev pub OnlyRuns : Type 0
-OnlyRuns =
-    (call : RunCall) → AllRuns call →
-    (file words words′ : List ℕ) (base : ℤ) (exports exports′ : List ℕ) (a : LoadAnswer) →
-    load file words base exports ≡ loaded words′ exports′ a → numbers a .number ≡ 0 →
-    (b : ℕ) × (base ≡ pos b) × ((requests : List Request) → Bring b requests →
-    let t : Table = record { words = drop b words′; used = numbers a .nodes } in
-    SameAll call run b (numbers a .nodes) t t requests)
-
 pub record Demand3 : Type 0 where
   pub all-runs : AllRuns run
-  -- and so does a single run, on any sound slots
-  pub run-simulates : RunSimulates
-  -- there is just one such store
-  pub one-order : OneOrder
-  pub one-start : OneStart
+  -- and so does a single run, on any sound slots; the numbers of the stops
+  pub run-simulates : RunSimulates run
+  pub stop-numbers : StopNumbers
+  -- the jobs that a run leaves are sound
+  pub jobs-sound : JobsSound
   -- a done run stays done with more fuel and room
   pub done-stays : DoneStays
-  -- whatever the receiver writes before the base meanwhile, the runs go the same
-  pub session-blind : SessionBlind
-  -- the jobs that a run leaves are sound, and sound jobs stand for one list of frames
-  pub jobs-sound : JobsSound
-  pub one-frame-list : OneFrameList
-  -- the machine is done just where the seven rules say so, its steps are the fuel spent, and it stops just where document 01
-  -- says, with its numbers
-  pub done-exactly : machine.DoneExactly
-  pub steps-spent : machine.StepsSpent
-  pub stops-exactly : machine.StopsExactly
-  pub stop-numbers : machine.StopNumbers
-  -- nothing is left open but which of two slots with one tree is named: no other call keeps these promises, neither of all
-  -- lists nor of single calls
-  pub only-runs : OnlyRuns
-  pub only-run : OnlyRun

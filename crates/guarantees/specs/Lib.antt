@@ -5,3 +5,4 @@ pub mod OnlyRun
 pub mod Order
 pub mod Load
 pub mod Demands
+pub mod Closing

@@ -1,7 +1,7 @@
 -- What the load call guarantees. The proofs are in proofs/, a file for each statement.
 use Prim.Native.Nat.{ℕ, _≤_, _<_}
 use mathlib.Core.Path.{_≡_}
-use mathlib.Core.List.{List, [], map}
+use mathlib.Core.List.{List, [], _++_, map}
 use mathlib.Core.Logic.{_↔_}
 use lib.ListN.{length, getD, take, drop}
 use lib.IntN.{ℤ, pos, negsuc}
@@ -19,7 +19,6 @@ use Rattle.loader.specs.declared.LoadAnswer.{LoadAnswer}
 use Rattle.loader.specs.Answer.{Numbers, numbers}
 use Rattle.loader.specs.Load.{Loaded, loaded, load}
 use Rattle.guarantees.specs.Order.{Order, TreesOf}
-use Rattle.guarantees.specs.Run.{SameFrom, beforeBase}
 use Rattle.guarantees.specs.Session.{Holding}
 
 -- ---- which loads are accepted
@@ -135,21 +134,13 @@ OnlyLoad =
 
 -- ---- the words before the base
 
--- what two loads leave and answer: the same answer and export table, the same words from the base on, and before it those
--- that were there
-abbrev pub SameLoad : ℤ → List ℕ → List ℕ → Loaded → Loaded → Type 0
-SameLoad base w w′ (loaded v e a) (loaded v′ e′ a′) =
-    (a ≡ a′) × (e ≡ e′) × SameFrom base v v′
-    × (beforeBase base v ≡ beforeBase base w) × (beforeBase base v′ ≡ beforeBase base w′)
-
--- No word before the base is looked at or changed: whatever those words hold, all else comes out the same.
+-- No word before the base is looked at or changed: wherever our part stands, and whatever is before it, all else is the same.
 abbrev pub LoadBlind : Type 0
 LoadBlind =
-    (file w w′ exports : List ℕ) (base : ℤ) →
-    SameFrom base w w′ →
-    SameLoad base w w′ (load file w base exports) (load file w′ base exports)
-
--- ---- the sections of other types
+    (file before before′ w exports : List ℕ) →
+    (v : List ℕ) × (exports′ : List ℕ) × (a : LoadAnswer) ×
+    (load file (before ++ w) (pos (length before)) exports ≡ loaded (before ++ v) exports′ a) ×
+    (load file (before′ ++ w) (pos (length before′)) exports ≡ loaded (before′ ++ v) exports′ a)
 
 -- What is not read of a file changes nothing: two files alike in all that is read are loaded alike.
 abbrev pub LoadSkips : Type 0

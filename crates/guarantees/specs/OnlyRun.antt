@@ -12,7 +12,7 @@ use Rattle.engine.specs.declared.RunAnswer.{RunAnswer}
 use Rattle.engine.specs.Run.{Ran, ran, run}
 use Rattle.engine.specs.Answer.{Numbers, numbers}
 use Rattle.guarantees.specs.Agrees.{doneWith, stoppedWith}
-use Rattle.guarantees.specs.Run.{RunCall, RefusesExactly, Simulates}
+use Rattle.guarantees.specs.Run.{RunCall, RefusedExactly, RunSimulates}
 use Rattle.guarantees.specs.Session.{Request, beforeOf, jobsOf, Bring, Table, answer, tableAfter, AllAlike}
 
 -- ---- one call
@@ -59,7 +59,7 @@ pub data SameCall (w j : List ℕ) (used : ℕ) (base : ℤ) : Ran → Ran → T
 -- the fuel, makes a step count up or writes a word more breaks one of the two promises.
 abbrev pub OnlyRun : Type 0
 OnlyRun =
-    (call : RunCall) → RefusesExactly call → Simulates call
+    (call : RunCall) → RefusedExactly call → RunSimulates call
     → (w j : List ℕ) (base f x : ℤ) (used fuel : ℕ)
     → SameCall w j used base (call w base f x used fuel j) (run w base f x used fuel j)
 

@@ -2,9 +2,9 @@
 use Prim.Native.Nat.{ℕ, _+_, _-_, _≤_, _<_}
 use mathlib.Core.Path.{_≡_}
 use mathlib.Core.List.{List, _++_}
-use mathlib.Core.Bool.{Bool, true, false, _||_}
+use mathlib.Core.Bool.{Bool, true, false, _&&_, _||_}
 use mathlib.Core.Logic.{_⊎_, _↔_}
-use lib.ListN.{length, take, drop}
+use lib.ListN.{length, drop}
 use lib.Dec.{eqb, leb}
 use lib.IntN.{ℤ, pos, negsuc}
 use Rattle.calculus.specs.Tree.{Tree}
@@ -20,31 +20,27 @@ use Rattle.engine.specs.Run.{Ran, ran, run}
 use Rattle.engine.specs.Answer.{Numbers, numbers}
 use Rattle.guarantees.specs.Agrees.{Agrees}
 
--- what any run call leaves and answers, by the word table, the base, the slots f and x, the used count, the fuel and the
--- frame table
+-- what any run call leaves and answers, by the word table, the base, f, x, the used count, the fuel and the frame table
 abbrev pub RunCall : Type 0
 RunCall = List ℕ → ℤ → ℤ → ℤ → ℕ → ℕ → List ℕ → Ran
 
 -- A run on sound used slots is the reference machine's, on the trees that they hold: with the call's fuel, the room
 -- less the used slots, and the frame table's room. The words before the base stay.
-abbrev pub Simulates : RunCall → Type 0
-Simulates call =
+abbrev pub RunSimulates : RunCall → Type 0
+RunSimulates call =
     (before w j : List ℕ) (used f x fuel : ℕ) (ft xt : Tree)
     → SoundSlots w used → Holds w used f ft → Holds w used x xt
     → (v : List ℕ) × (k : List ℕ) × (a : RunAnswer)
     × (call (before ++ w) (pos (length before)) (pos f) (pos x) used fuel j ≡ ran (before ++ v) k a)
     × Agrees w used j v k (numbers a) (machine.run fuel (room w - used) (frameRoom j) (machine.start ft xt))
 
-abbrev pub RunSimulates : Type 0
-RunSimulates = Simulates run
-
 -- a refusal's numbers: its own, and every other 0
 abbrev pub refusal : ℕ → Numbers
 refusal n = record { number = n; slot = pos 0; f = pos 0; x = pos 0; steps = 0; used = 0; waiting = 0 }
 
--- a run that was let start is answered 0, or with a stop, 31 or above
+-- a run that was let start is answered 0, or with a stop: 31, 32 or 33
 abbrev pub started : Numbers → Bool
-started a = eqb (a .number) 0 || leb 31 (a .number)
+started a = eqb (a .number) 0 || (leb 31 (a .number) && leb (a .number) 33)
 
 -- a call on these two tables is refused with this number: it answers that, and changes no word
 abbrev pub RefusedWith : ℕ → List ℕ → List ℕ → Ran → Type 0
@@ -57,11 +53,11 @@ RefusalKeeps =
     → run w base f x used fuel j ≡ ran v k a → started (numbers a) ≡ false
     → (n : ℕ) × RefusedWith n w j (ran v k a) × ((n ≡ 21) ⊎ ((n ≡ 23) ⊎ (n ≡ 24)))
 
--- The number tells which case of the answer it is: a refusal has 21, 23 or 24, a stop 31 or above.
+-- The number tells which case of the answer it is: a refusal has 21, 23 or 24, a stop 31, 32 or 33.
 abbrev pub Tells : RunAnswer → Type 0
 Tells (Refused n) = (n ≡ 21) ⊎ ((n ≡ 23) ⊎ (n ≡ 24))
 Tells (Done slot steps used) = Unit {0}
-Tells (Stopped n f x steps used waiting) = 31 ≤ n
+Tells (Stopped n f x steps used waiting) = (31 ≤ n) × (n ≤ 33)
 
 abbrev pub NumberTells : Type 0
 NumberTells =
@@ -85,17 +81,14 @@ Damaged w (pos b) used = (i : ℕ) × (i < used) × (SoundSlot (drop b w) i → 
 Damaged w (negsuc b) used = ⊥
 
 -- A run is refused exactly when one of these holds, with the lowest number that applies.
-abbrev pub RefusesExactly : RunCall → Type 0
-RefusesExactly call =
+abbrev pub RefusedExactly : RunCall → Type 0
+RefusedExactly call =
     (w j : List ℕ) (base f x : ℤ) (used fuel : ℕ)
     → (RefusedWith 21 w j (call w base f x used fuel j) ↔ OutOfTable w base used)
     × (RefusedWith 23 w j (call w base f x used fuel j)
     ↔ ((OutOfTable w base used → ⊥) × (Misplaced used f ⊎ Misplaced used x)))
     × (RefusedWith 24 w j (call w base f x used fuel j)
     ↔ ((OutOfTable w base used → ⊥) × (Misplaced used f → ⊥) × (Misplaced used x → ⊥) × Damaged w base used))
-
-abbrev pub RefusedExactly : Type 0
-RefusedExactly = RefusesExactly run
 
 -- Every run that was let start leaves sound waiting jobs, as many as it answers: none where it is done.
 abbrev pub JobsSound : Type 0
@@ -104,29 +97,14 @@ JobsSound =
     → run w base f x used fuel j ≡ ran v k a → started (numbers a) ≡ true
     → SoundJobs (numbers a .used) k (numbers a .waiting)
 
--- two tables agree from the base on; where there is no base, nothing is asked of them
-abbrev pub SameFrom : ℤ → List ℕ → List ℕ → Type 0
-SameFrom (pos b) w w′ = (length w ≡ length w′) × (drop b w ≡ drop b w′)
-SameFrom (negsuc b) w w′ = Unit {0}
-
--- the words before the base; where there is no base, all
-abbrev pub beforeBase : ℤ → List ℕ → List ℕ
-beforeBase (pos b) w = take b w
-beforeBase (negsuc b) w = w
-
--- what two calls leave and answer: the same answer and frame table, the same words from the base on, and before it
--- those that were there
-abbrev pub SameRun : ℤ → List ℕ → List ℕ → Ran → Ran → Type 0
-SameRun base w w′ (ran v k a) (ran v′ k′ a′) =
-    (a ≡ a′) × (k ≡ k′) × SameFrom base v v′
-    × (beforeBase base v ≡ beforeBase base w) × (beforeBase base v′ ≡ beforeBase base w′)
-
--- No word before the base is looked at or changed: whatever those words hold, all else comes out the same.
+-- No word before the base is looked at or changed: wherever our part stands, and whatever is before it, the answer, our part and
+-- the frame table come out the same. Where the base is negative or past the end, no part is ours, and all is 21.
 abbrev pub BaseBlind : Type 0
 BaseBlind =
-    (w w′ j : List ℕ) (base f x : ℤ) (used fuel : ℕ)
-    → SameFrom base w w′
-    → SameRun base w w′ (run w base f x used fuel j) (run w′ base f x used fuel j)
+    (before before′ w j : List ℕ) (f x : ℤ) (used fuel : ℕ)
+    → (v : List ℕ) × (k : List ℕ) × (a : RunAnswer)
+    × (run (before ++ w) (pos (length before)) f x used fuel j ≡ ran (before ++ v) k a)
+    × (run (before′ ++ w) (pos (length before′)) f x used fuel j ≡ ran (before′ ++ v) k a)
 
 -- A done run, one that is answered 0, stays done with at least as much fuel and room for slots and frames, on the same
 -- used slots, wherever they stand: the same answer, and the same slots.

@@ -17,10 +17,9 @@ use Rattle.engine.specs.declared.RunAnswer.{RunAnswer}
 use Rattle.engine.specs.Run.{Ran, ran, run}
 use Rattle.engine.specs.Answer.{numbers}
 use Rattle.guarantees.specs.Agrees.{Agrees}
-use Rattle.guarantees.specs.Run.{RunCall, Simulates, RefusesExactly, refusal, started}
+use Rattle.guarantees.specs.Run.{RunCall, RunSimulates, RefusedExactly, refusal, started}
 
--- A request to run: the words before the base as they are then, whatever the receiver wrote there meanwhile; the slots f
--- and x, the fuel and the frame table that is lent.
+-- a request to run: the words that are before the base by then, the slots f and x, the fuel and the frame table that is lent
 pub record ToRun : Type 0 where
   pub before : List ℕ
   pub f : ℤ
@@ -59,8 +58,7 @@ pub data Reply : Type 0 where
   refused : ℕ → Reply
   answered : Outcome → Reply
 
--- refused with 23 if f or x is no place in the store; else the machine gets their trees, the fuel, the free slots and the
--- places for frames
+-- 23 if f or x is no place in the store; else the machine gets their trees, the fuel, the free slots and the places
 abbrev pub replyTo : Found → Found → ℕ → ℕ → ℕ → Reply
 replyTo nowhere x fuel free places = refused 23
 replyTo (found f) nowhere fuel free places = refused 23
@@ -92,8 +90,7 @@ tableAfter b t (ran w j a) =
 
 -- ---- both
 
--- a request is refused by both with one number, and changes nothing; or answered by both, and agrees, and the words
--- before the base stay
+-- both refuse with one number, and nothing changes; or both answer, what they answer agrees, and the words before the base stay
 pub data Alike (t : Table) (c : Request) : Ran → Reply → Type 0 where
   alike-refused : {a : RunAnswer} {n : ℕ} → numbers a ≡ refusal n → started (refusal n) ≡ false
       → Alike t c (ran (beforeOf c ++ t .words) (jobsOf c) a) (refused n)
@@ -109,8 +106,7 @@ pub record Holding (w : List ℕ) (used : ℕ) (store : List Tree) : Type 0 wher
   pub each : HoldsFrom w used 0 store
   pub zero : Holds w used 0 leaf
 
--- the whole list, by one call, at base b in a table whose room is `most` throughout; after it the used slots hold the
--- store
+-- the whole list, at base b in a table whose room is `most` throughout; after it the used slots hold the store
 abbrev pub AllAlike : RunCall → ℕ → ℕ → Table → List Tree → List Request → Type 0
 AllAlike call b most t store [] = Holding (t .words) (t .used) store × (room (t .words) ≡ most)
 AllAlike call b most t store (c ∷ cs) =
@@ -121,7 +117,7 @@ AllAlike call b most t store (c ∷ cs) =
 -- whatever stands before the base at each of them; and so with any call that keeps two promises of the run call.
 abbrev pub SessionSimulates : Type 0
 SessionSimulates =
-    (call : RunCall) → RefusesExactly call → Simulates call
+    (call : RunCall) → RefusedExactly call → RunSimulates call
     → (w : List ℕ) (used : ℕ) (store : List Tree) → Holding w used store
     → (b : ℕ) (requests : List Request) → Bring b requests
     → AllAlike call b (room w) (record { words = w; used = used }) store requests

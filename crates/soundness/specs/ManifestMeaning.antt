@@ -15,16 +15,9 @@ use Rattle.soundness.specs.ManifestGrammar.{Contents, IsManifest}
 pub data NineStrings : List (List ℕ) → Type 0 where
   nine : (evaluation : List ℕ) →
       NineStrings
-      (ascii "arboricx.bundle.manifest.v1" ∷
-      ascii "tree-calculus-executable-object" ∷
-      ascii "tree-calculus.v1" ∷
-      ascii "sha256" ∷
-      ascii "arboricx.merkle.node.v1" ∷
-      ascii "arboricx.merkle.payload.v1" ∷
-      ascii "tree-calculus.v1" ∷
-      evaluation ∷
-      ascii "arboricx.abi.tree.v1" ∷
-      [])
+      (ascii "arboricx.bundle.manifest.v1" ∷ ascii "tree-calculus-executable-object" ∷ ascii "tree-calculus.v1" ∷
+      ascii "sha256" ∷ ascii "arboricx.merkle.node.v1" ∷ ascii "arboricx.merkle.payload.v1" ∷ ascii "tree-calculus.v1" ∷
+      evaluation ∷ ascii "arboricx.abi.tree.v1" ∷ [])
 
 -- the fixed strings are those of document 01, no capability is listed, and the closure is complete
 pub record Supported (m : Contents) : Type 0 where

@@ -1,5 +1,5 @@
 -- Laws of the trees that slots hold: each used slot of a sound table holds one, and the next slot's node changes none.
-use Prim.Native.Nat.{ℕ, zero, suc, _+_, _≤_, _<_}
+use Prim.Native.Nat.{ℕ, zero, suc, _+_, _*_, _≤_, _<_}
 use mathlib.Core.Path.{_≡_, refl, ap, _∙_, subst}
 use mathlib.Core.List.{List, [], _∷_, _++_}
 use native.Mathlib.Omega.{arith}
@@ -10,8 +10,8 @@ use Rattle.table.specs.declared.slots.Node.{Node}
 use Rattle.table.specs.declared.slots.Node.the-variants.{Leaf, Stem, Fork}
 use Rattle.table.specs.Slots.{slot, room, nodeAt, putNode, Below}
 use Rattle.table.specs.Sound.{SoundSlots, OnlyZeroIsLeaf}
-use Rattle.table.specs.Holds.{Holds, holds-leaf, holds-stem, holds-fork, HoldsFrom, Kept, Untouched}
-use Rattle.table.proofs.SlotLaws.{Has, has-node, length-put, put-outside, put-here, put-other}
+use Rattle.table.specs.Holds.{Words, Holds, holds-leaf, holds-stem, holds-fork, HoldsFrom, Kept, Untouched}
+use Rattle.table.proofs.SlotLaws.{Has, has-node, length-put, put-outside, put-here}
 use Rattle.table.proofs.SoundLaws.{slot-below, slot-has, sound-zero}
 
 -- a slot that holds a tree is a used one, and holds the node of that tree
@@ -55,19 +55,26 @@ one-tree w n i (fork t t′) (fork u u′) h g =
       one-tree w n (q .1) t′ u′ (subst (λ (s : Slot). Holds w n (s .0) t′) d (p .4)) (q .4),
     )
 
+-- what used slots hold stays where only later slots are written
+module _ {w v : List ℕ} {n m : ℕ} (l : n ≤ m) (same : Untouched w n v m) where
+  kept-words : {i p q : ℕ} → i < n → Words w i p q → Words v i p q
+  kept-words {i = i} h e =
+      record {
+        inside = omega (arith, e .inside, same .long);
+        first = same .under (2 * i) (omega arith) ∙ e .first;
+        second = same .under (2 * i + 1) (omega arith) ∙ e .second;
+      }
+
+  pub untouched-kept : Kept w n v m
+  untouched-kept i leaf (holds-leaf h e) = holds-leaf {i = i} (omega arith) (kept-words h e)
+  untouched-kept i (stem t) (holds-stem {a = a} h e c) =
+      holds-stem {i = i} {a = a} (omega arith) (kept-words h e) (untouched-kept a t c)
+  untouched-kept i (fork t u) (holds-fork {a = a} {b = b} h e c d) =
+      holds-fork {i = i} {a = a} {b = b} (omega arith) (kept-words h e) (untouched-kept a t c) (untouched-kept b u d)
+
 -- the node of slot n is written
 module _ (w : List ℕ) (n : ℕ) where
   module _ (node : Node) where
-    -- what the slots below hold stays
-    pub put-keeps : Kept w n (putNode w n node) (n + 1)
-    put-keeps i leaf (holds-leaf h e) = holds-leaf {i = i} (omega arith) (put-other w n node i Leaf (omega arith) e)
-    put-keeps i (stem t) (holds-stem {a = a} h e c) =
-        holds-stem {i = i} {a = a} (omega arith) (put-other w n node i (Stem (slot a)) (omega arith) e)
-        (put-keeps a t c)
-    put-keeps i (fork t u) (holds-fork {a = a} {b = b} h e c d) =
-        holds-fork {i = i} {a = a} {b = b} (omega arith) (put-other w n node i (Fork (slot a) (slot b)) (omega arith) e)
-        (put-keeps a t c) (put-keeps b u d)
-
     -- one slot is written
     pub untouched-put : Untouched w n (putNode w n node) (n + 1)
     untouched-put =
@@ -76,6 +83,10 @@ module _ (w : List ℕ) (n : ℕ) where
           under = λ k h. put-outside w n node k (omega arith) (omega arith);
           over = λ k h. put-outside w n node k (omega arith) (omega arith);
         }
+
+    -- what the slots below hold stays
+    pub put-keeps : Kept w n (putNode w n node) (n + 1)
+    put-keeps = untouched-kept (omega arith) untouched-put
 
   -- the slot holds the tree of its node
   pub put-leaf : n < room w → Holds (putNode w n Leaf) (n + 1) n leaf

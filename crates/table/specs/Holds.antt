@@ -13,8 +13,7 @@ pub record Words (w : List ℕ) (i p q : ℕ) : Type 0 where
   pub first : getD w (2 * i) 0 ≡ p
   pub second : getD w (2 * i + 1) 0 ≡ q
 
--- among the first n slots of w, slot i holds the tree t: leaf is (0, 0); a stem on slot a is (a + 1, 0); a fork of a and b
--- is (a + 1, b + 1)
+-- slot i of the first n holds the tree t: leaf is (0, 0); a stem on slot a is (a + 1, 0); a fork of a and b is (a + 1, b + 1)
 pub data Holds (w : List ℕ) (n : ℕ) : ℕ → Tree → Type 0 where
   holds-leaf : {i : ℕ} → i < n → Words w i 0 0 → Holds w n i leaf
   holds-stem : {i a : ℕ} {t : Tree} → i < n → Words w i (a + 1) 0 → Holds w n a t → Holds w n i (stem t)
@@ -36,8 +35,7 @@ pub record Untouched (w : List ℕ) (n : ℕ) (v : List ℕ) (m : ℕ) : Type 0 
   pub under : (k : ℕ) → k < 2 * n → getD v k 0 ≡ getD w k 0
   pub over : (k : ℕ) → 2 * m ≤ k → getD v k 0 ≡ getD w k 0
 
--- three words stand for a frame of trees: "then b to x" is (1, b, x), "then the result to v" (2, v, 0), "then w to the
--- result" (3, w, 0)
+-- three words are a frame: "then b to x" is (1, b, x), "then the result to v" (2, v, 0), "then w to the result" (3, w, 0)
 pub data Stands (w : List ℕ) (n : ℕ) (v : Record) : Frame → Type 0 where
   stands-operand : {a b : ℕ} {t u : Tree} → v ≡ record { tag = 1; first = a; second = b }
       → Holds w n a t → Holds w n b u → Stands w n v (operand t u)

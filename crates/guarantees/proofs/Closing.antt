@@ -1,0 +1,65 @@
+-- Nothing is left open by the demands, and their definitions agree with others of the same things.
+use lib.ListN.{drop}
+use Rattle.calculus.proofs.DoneExactly.{done-exactly}
+use Rattle.calculus.proofs.StepsSpent.{steps-spent}
+use Rattle.calculus.proofs.Stops.{stops-exactly}
+use Rattle.table.specs.Slots.{room}
+use Rattle.table.proofs.SoundFrames.{one-frame-list}
+use Rattle.engine.specs.Run.{run}
+use Rattle.soundness.proofs.ExportCalls.{only-name, index-tells, only-index}
+use Rattle.soundness.proofs.Meaning as checks
+use Rattle.soundness.proofs.Skipped.{skipped-unread}
+use Rattle.soundness.proofs.NodesMeaning.{hashed-bytes, longest-reached}
+use Rattle.loader.specs.Answer.{numbers}
+use Rattle.guarantees.specs.Closing.{OnlyRuns, Closing, Agreeing}
+use Rattle.guarantees.proofs.RefusalKeeps.{number-tells}
+use Rattle.guarantees.proofs.SessionBlind.{session-blind}
+use Rattle.guarantees.proofs.LoadSkips.{load-skips}
+use Rattle.guarantees.proofs.OneOrder.{one-order, one-start}
+use Rattle.guarantees.proofs.OnlyLoad.{only-load}
+use Rattle.guarantees.proofs.OnlyRun.{only-run}
+use Rattle.guarantees.proofs.OnlySession.{only-session}
+use Rattle.guarantees.proofs.Demands.{goes-on}
+
+only-runs : OnlyRuns
+only-runs call all file words words′ base exports exports′ a e z =
+    let (l, alike) = all file words words′ base exports exports′ a e z in (
+      l .at,
+      l .base-is,
+      λ requests bring.
+          only-session call run (l .at) (room (drop (l .at) words))
+          (record { words = drop (l .at) words′; used = numbers a .nodes }) (l .store) requests bring (alike requests bring)
+          (goes-on l requests bring),
+    )
+
+pub closing : Closing
+closing =
+    record {
+      only-load = only-load;
+      only-check = checks.only-check;
+      only-name = only-name;
+      only-index = only-index;
+      only-run = only-run;
+      only-runs = only-runs;
+      run-tells = number-tells;
+      index-tells = index-tells;
+      one-order = one-order;
+      one-start = one-start;
+      one-frame-list = one-frame-list;
+    }
+
+pub agreeing : Agreeing
+agreeing =
+    record {
+      sound-exactly = checks.sound-exactly;
+      described = checks.described-exactly;
+      skipped-unread = skipped-unread;
+      load-skips = load-skips;
+      hashed-bytes = hashed-bytes;
+      longest-nodes = checks.longest-nodes;
+      longest-reached = longest-reached;
+      done-exactly = done-exactly;
+      steps-spent = steps-spent;
+      stops-exactly = stops-exactly;
+      session-blind = session-blind;
+    }
