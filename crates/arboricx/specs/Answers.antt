@@ -14,7 +14,7 @@ use Rattle.bundle.specs.Exports as exports
 abbrev pub loadWords : LoadAnswer → List ℕ
 loadWords a = load.numbers a .number ∷ load.numbers a .nodes ∷ load.numbers a .exports ∷ []
 
--- a slot as the word that C reads; none that is answered is negative (SlotsNamed of engine), and one that was would stay so as int32_t
+-- a slot as the word that C reads; none that is answered is negative (SlotsNamed of engine)
 abbrev pub slotWord : ℤ → ℕ
 slotWord (pos i) = i
 slotWord (negsuc i) = 2 ^ 32 - suc i

@@ -6,17 +6,14 @@ use mathlib.Core.Bool.{false}
 use mathlib.Core.Logic.{_↔_}
 use native.Mathlib.Omega.{arith}
 use lib.ListN.{length, take, drop}
-use Rattle.wire.specs.Wire.{bigEndian, ascii}
-use Rattle.wire.specs.Relations.{Number}
-use Rattle.wire.proofs.Parts.{part-length}
-use Rattle.wire.proofs.Spans.{number-in}
+use Rattle.wire.specs.Wire.{ascii}
 use Rattle.wire.proofs.Bytes.{holds-exactly}
 use Rattle.sizes.specs.Sizes.{fileSize, sectionsSize}
 use Rattle.sizes.proofs.Within.{within-exactly}
 use Rattle.wire.proofs.Some.{any-none, any-more}
 use Rattle.wire.proofs.Tests.{below-exactly, equal-exactly, not-exactly}
 use Rattle.bundle.specs.Header.{headerBytes, entryBytes, sectionCount, directoryOffset}
-use Rattle.bundle.specs.Header.{tooLong, tooShort, otherMagic, otherMajor, noDirectory}
+use Rattle.bundle.specs.Header.{tooLong, tooShort, otherMagic, noDirectory}
 
 module _ (file : List ℕ) where
   pub most-exactly : (tooLong file ≡ false) ↔ (length file ≤ fileSize .most)
@@ -33,13 +30,6 @@ module _ (file : List ℕ) where
     magic-exactly =
         let means = not-exactly _ (holds-exactly file 0 (ascii "ARBORICX")) in
         (λ e. means .0 e .1, λ h. means .1 (omega arith, h))
-
-    pub major-exactly : (otherMajor file ≡ false) ↔ Number 2 1 (take 2 (drop 8 file))
-    unfolding otherMajor
-    major-exactly =
-        let means = not-exactly _ (equal-exactly (bigEndian (take 2 (drop 8 file))) 1) in
-        rw (← number-in file 8 2 (omega arith) refl)
-        (λ e. record { size = part-length file 8 2 (omega arith); value = means .0 e }, λ n. means .1 (n .value))
 
   pub directory-exactly : (noDirectory file ≡ false) ↔
       ((sectionsSize .least ≤ sectionCount file) × (sectionCount file ≤ sectionsSize .most) ×

@@ -3,60 +3,84 @@ use Prim.Native.Nat.{ℕ, zero, suc, _-_, _≤_, _<_}
 use mathlib.Core.Path.{_≡_, refl, ap}
 use native.Mathlib.Omega.{arith}
 use lib.ListN.{length}
-use Rattle.calculus.specs.Machine.{State, no-fuel, no-slot, no-place, Turn, going, done, stop, step, Outcome, run}
-use Rattle.calculus.specs.Machine.{ended, stopped, halted, finished, proceed}
+use Rattle.calculus.specs.Tree.{Tree}
+use Rattle.calculus.specs.Machine.{State, Stop, no-fuel, no-slot, no-place, Turn, going, done, stop, step, Outcome, run}
+use Rattle.calculus.specs.Machine.{ended, stopped, halted, finished, stepped, proceed}
 use Rattle.calculus.specs.Laws.{RunsOut, StepsSpent}
 use Rattle.calculus.proofs.FuelCuts.{Fuelled, step-fuelled}
 
--- what is said of a run with so much fuel
-abbrev Spent : ℕ → ℕ → ℕ → State → Type 0
-Spent fuel free places s =
-    (run fuel free places s .steps ≤ fuel) × (RunsOut (run fuel free places s) → run fuel free places s .steps ≡ fuel) ×
-    ((less : ℕ) → less < run fuel free places s .steps → RunsOut (run less free places s))
+-- what is said of an outcome with so much fuel, where other fuel comes to `with`
+abbrev Spent : ℕ → (ℕ → Outcome) → Outcome → Type 0
+Spent fuel with o =
+    (o .steps ≤ fuel) × (RunsOut o → o .steps ≡ fuel) × ((less : ℕ) → less < o .steps → RunsOut (with less)) ×
+    ((t : Tree) → o .ending ≡ ended t → with (o .steps) ≡ o) × ((RunsOut o → ⊥) → with (suc (o .steps)) ≡ o)
 
--- with no fuel it stops at once for want of it
-at-once : (free places : ℕ) (s : State) → RunsOut (run 0 free places s)
-unfolding run
-at-once free places s = (s .f, s .x, _, refl)
+-- a run that stops at once
+module _ (why : Stop) (s : State) where
+  not-ended : (t : Tree) → halted why s .ending ≡ ended t → ⊥
+  not-ended t q = let z : _≡_ {A = ℕ} 0 1 = cc in omega arith
 
-no-fuel-spent : (free places : ℕ) (s : State) → Spent 0 free places s
-unfolding run
-no-fuel-spent free places s = (omega arith, λ _. refl, λ n l. absurd (omega arith))
+  spent-at-once : (fuel : ℕ) (with : ℕ → Outcome) → (why ≡ no-fuel → fuel ≡ 0) → (RunsOut (halted why s) → why ≡ no-fuel) →
+      ((RunsOut (halted why s) → ⊥) → with 1 ≡ halted why s) → Spent fuel with (halted why s)
+  spent-at-once fuel with none same one =
+      (omega arith, λ out. (let e = none (same out) in omega arith), λ n l. absurd (omega arith), λ t q. absurd (not-ended t q), one)
 
-module _ (fuel free places : ℕ) (s : State) (later : (k : ℕ) (s′ : State) → Spent fuel k places s′) where
-  -- by what its first step comes to
-  by-turn : (t : Turn) → Fuelled t → step free places s ≡ t → Spent (suc fuel) free places s
+module _ (free places : ℕ) (s : State) where
+  abbrev with : ℕ → Outcome
+  with n = run n free places s
+
+  -- with no fuel it stops at once for want of it
+  at-once : RunsOut (with 0)
   unfolding run
-  by-turn (going made s′) h e =
-      let (most, all, less) = later (free - length made) s′ in (
-        rw e (omega (arith, most)),
-        rw e (λ out. ap suc (all out)),
-        rw e (fewer less),
-      )
-    where
-      fewer : ((n : ℕ) → n < run fuel (free - length made) places s′ .steps → RunsOut (run n (free - length made) places s′)) →
-          (n : ℕ) → n < suc (run fuel (free - length made) places s′ .steps) → RunsOut (run n free places s)
-      fewer less zero l = at-once free places s
-      fewer less (suc n) l = rw e (less n (omega arith))
-  by-turn (done made t) h e = (rw e (omega arith), rw e never, rw e fewer)
-    where
-      never : RunsOut (finished made t) → 1 ≡ suc fuel
-      never (f, x, js, q) = let z : _≡_ {A = ℕ} 0 1 = cc in absurd (omega arith)
+  at-once = (s .f, s .x, _, refl)
 
-      fewer : (n : ℕ) → n < 1 → RunsOut (run n free places s)
-      fewer zero l = at-once free places s
-      fewer (suc n) l = absurd (omega arith)
-  by-turn (stop no-fuel) h e = absurd h
-  by-turn (stop no-slot) h e = (rw e (omega arith), rw e never, rw e (λ n l. absurd (omega arith)))
-    where
-      never : RunsOut (halted no-slot s) → 0 ≡ suc fuel
-      never (f, x, js, q) = let z : _≡_ {A = ℕ} 0 1 = cc in absurd (omega arith)
-  by-turn (stop no-place) h e = (rw e (omega arith), rw e never, rw e (λ n l. absurd (omega arith)))
-    where
-      never : RunsOut (halted no-place s) → 0 ≡ suc fuel
-      never (f, x, js, q) = let z : _≡_ {A = ℕ} 0 1 = cc in absurd (omega arith)
+  no-fuel-spent : Spent 0 with (with 0)
+  unfolding run
+  no-fuel-spent = spent-at-once no-fuel s 0 with (λ _. refl) (λ _. refl) (λ never. absurd (never at-once))
+
+  module _ (fuel : ℕ) (later : (k : ℕ) (s′ : State) → Spent fuel (λ n. run n k places s′) (run fuel k places s′)) where
+    -- by what its first step comes to
+    by-turn : (t : Turn) → Fuelled t → step free places s ≡ t → Spent (suc fuel) with (proceed (run fuel) free places s t)
+    unfolding run
+    by-turn (going made s′) h e =
+        let (most, all, less, whole, other) = later (free - length made) s′ in (
+          omega (arith, most),
+          λ out. ap suc (all out),
+          fewer less,
+          λ t q. rw e (ap (stepped made) (whole t q)),
+          λ never. rw e (ap (stepped made) (other never)),
+        )
+      where
+        fewer : ((n : ℕ) → n < run fuel (free - length made) places s′ .steps → RunsOut (run n (free - length made) places s′)) →
+            (n : ℕ) → n < suc (run fuel (free - length made) places s′ .steps) → RunsOut (with n)
+        fewer less zero l = at-once
+        fewer less (suc n) l = rw e (less n (omega arith))
+    by-turn (done made t) h e = (omega arith, never, fewer, λ t q. rw e refl, λ _. rw e refl)
+      where
+        never : RunsOut (finished made t) → 1 ≡ suc fuel
+        never (f, x, js, q) = let z : _≡_ {A = ℕ} 0 1 = cc in absurd (omega arith)
+
+        fewer : (n : ℕ) → n < 1 → RunsOut (with n)
+        fewer zero l = at-once
+        fewer (suc n) l = absurd (omega arith)
+    by-turn (stop no-fuel) h e = absurd h
+    by-turn (stop no-slot) h e = spent-at-once no-slot s (suc fuel) with other (λ out. same out) (λ _. rw e refl)
+      where
+        other : no-slot ≡ no-fuel → suc fuel ≡ 0
+        other q = let z : _≡_ {A = ℕ} 0 1 = cc in absurd (omega arith)
+
+        same : RunsOut (halted no-slot s) → no-slot ≡ no-fuel
+        same (f, x, js, q) = cc
+    by-turn (stop no-place) h e = spent-at-once no-place s (suc fuel) with other (λ out. same out) (λ _. rw e refl)
+      where
+        other : no-place ≡ no-fuel → suc fuel ≡ 0
+        other q = let z : _≡_ {A = ℕ} 0 1 = cc in absurd (omega arith)
+
+        same : RunsOut (halted no-place s) → no-place ≡ no-fuel
+        same (f, x, js, q) = cc
 
 pub steps-spent : StepsSpent
+unfolding run
 steps-spent zero free places s = no-fuel-spent free places s
 steps-spent (suc fuel) free places s =
-    by-turn fuel free places s (λ k s′. steps-spent fuel k places s′) (step free places s) (step-fuelled free places s) refl
+    by-turn free places s fuel (λ k s′. steps-spent fuel k places s′) (step free places s) (step-fuelled free places s) refl

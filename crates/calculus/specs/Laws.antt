@@ -1,5 +1,5 @@
 -- What holds of every run of the reference machine. The proofs are in proofs/, a file for each statement.
-use Prim.Native.Nat.{ℕ, _+_, _-_, _≤_, _<_}
+use Prim.Native.Nat.{ℕ, suc, _+_, _-_, _≤_, _<_}
 use mathlib.Core.Path.{_≡_}
 use mathlib.Core.List.{List, [], _++_, reverse}
 use mathlib.Core.Logic.{_↔_}
@@ -20,7 +20,7 @@ pub data StopsAt (fuel free places : ℕ) : Tree → Tree → List Frame → Sto
   place-for-7 : {a b c u v : Tree} {js : List Frame} → 0 < fuel → places ≤ length js →
       StopsAt fuel free places (fork (fork a b) c) (fork u v) js no-place
 
--- A run takes no step and stops with a number exactly then.
+-- A run takes no step, and stops so, exactly then.
 abbrev pub StopsExactly : Type 0
 StopsExactly =
     (fuel free places : ℕ) (s : State) (why : Stop) →
@@ -36,12 +36,16 @@ abbrev pub RunsOut : Outcome → Type 0
 RunsOut o = (f : Tree) × (x : Tree) × (js : List Frame) × (o .ending ≡ stopped no-fuel f x js)
 
 -- "Each rule used is one step": the steps are the fuel that was spent. They are no more than there was, and all of it where it ran
--- out; with any less the run would have stopped for want of it.
+-- out. With any less the run would have stopped for want of it; with just so much a done run is done, and with one more each other
+-- run that did not run out ends as it did.
 abbrev pub StepsSpent : Type 0
 StepsSpent =
     (fuel free places : ℕ) (s : State) →
-    (run fuel free places s .steps ≤ fuel) × (RunsOut (run fuel free places s) → run fuel free places s .steps ≡ fuel) ×
-    ((less : ℕ) → less < run fuel free places s .steps → RunsOut (run less free places s))
+    let o : Outcome = run fuel free places s in
+    (o .steps ≤ fuel) × (RunsOut o → o .steps ≡ fuel) ×
+    ((less : ℕ) → less < o .steps → RunsOut (run less free places s)) ×
+    ((t : Tree) → o .ending ≡ ended t → run (o .steps) free places s ≡ o) ×
+    ((RunsOut o → ⊥) → run (suc (o .steps)) free places s ≡ o)
 
 -- A run that is done stays done with at least as much of everything: the same tree, steps and nodes made.
 abbrev pub DoneStays : Type 0

@@ -1,5 +1,6 @@
 -- Nothing is left open by the demands, and their definitions agree with others of the same things.
 use lib.ListN.{drop}
+use Rattle.calculus.proofs.Cases.{cases-hold, further-hold}
 use Rattle.calculus.proofs.DoneExactly.{done-exactly}
 use Rattle.calculus.proofs.StepsSpent.{steps-spent}
 use Rattle.calculus.proofs.Stops.{stops-exactly}
@@ -10,9 +11,10 @@ use Rattle.soundness.proofs.ExportCalls.{only-name, index-tells, only-index}
 use Rattle.soundness.proofs.Meaning as checks
 use Rattle.soundness.proofs.Skipped.{skipped-unread}
 use Rattle.soundness.proofs.NodesMeaning.{hashed-bytes, longest-reached}
-use Rattle.loader.specs.Answer.{numbers}
+use Rattle.bundle_example.specs.Leaf.{leafBundle}
+use Rattle.bundle_example.proofs.Cases.{leaf-sound}
 use Rattle.guarantees.specs.Closing.{OnlyRuns, Closing, Agreeing}
-use Rattle.guarantees.proofs.RefusalKeeps.{number-tells}
+use Rattle.guarantees.proofs.RefusalKeeps.{number-tells, one-answer}
 use Rattle.guarantees.proofs.SessionBlind.{session-blind}
 use Rattle.guarantees.proofs.LoadSkips.{load-skips}
 use Rattle.guarantees.proofs.OneOrder.{one-order, one-start}
@@ -22,15 +24,9 @@ use Rattle.guarantees.proofs.OnlySession.{only-session}
 use Rattle.guarantees.proofs.Demands.{goes-on}
 
 only-runs : OnlyRuns
-only-runs call all file words words′ base exports exports′ a e z =
-    let (l, alike) = all file words words′ base exports exports′ a e z in (
-      l .at,
-      l .base-is,
-      λ requests bring.
-          only-session call run (l .at) (room (drop (l .at) words))
-          (record { words = drop (l .at) words′; used = numbers a .nodes }) (l .store) requests bring (alike requests bring)
-          (goes-on l requests bring),
-    )
+only-runs call all file words words′ base exports exports′ n l requests bring =
+    only-session call run (l .at) (room (drop (l .at) words)) (record { words = drop (l .at) words′; used = n .nodes })
+    (l .store) requests bring (all file words words′ base exports exports′ n l requests bring) (goes-on l requests bring)
 
 pub closing : Closing
 closing =
@@ -42,6 +38,7 @@ closing =
       only-run = only-run;
       only-runs = only-runs;
       run-tells = number-tells;
+      one-answer = one-answer;
       index-tells = index-tells;
       one-order = one-order;
       one-start = one-start;
@@ -53,11 +50,14 @@ agreeing =
     record {
       sound-exactly = checks.sound-exactly;
       described = checks.described-exactly;
+      some-bundle = (leafBundle, leaf-sound);
       skipped-unread = skipped-unread;
       load-skips = load-skips;
       hashed-bytes = hashed-bytes;
       longest-nodes = checks.longest-nodes;
       longest-reached = longest-reached;
+      marked-cases = cases-hold;
+      further-cases = further-hold;
       done-exactly = done-exactly;
       steps-spent = steps-spent;
       stops-exactly = stops-exactly;

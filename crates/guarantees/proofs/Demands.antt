@@ -60,6 +60,7 @@ demand-2 =
     record {
       load-accepted = accepted-exactly;
       load-by-number = load-number-exactly;
+      load-leaves = load-leaves;
       check-accepted = checks.accepted-exactly;
       check-by-number = number-exactly;
       big-endian = big-endian;
@@ -78,9 +79,7 @@ module _ {file words words′ : List ℕ} {base : ℤ} {exports exports′ : Lis
       (session-simulates run refused-exactly run-simulates v (n .nodes) (l .store) (l .holding) (l .at))
 
 all-runs : AllRuns run
-all-runs file words words′ base exports exports′ a e z =
-    let l = load-leaves file words words′ base exports exports′ a e z in
-    (l, goes-on l)
+all-runs file words words′ base exports exports′ n l = goes-on l
 
 pub demand-3 : Demand3
 demand-3 =

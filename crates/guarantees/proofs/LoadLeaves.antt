@@ -155,6 +155,7 @@ module _ (file w out : List ℕ) (b : ℕ) (sound : Sound file) (inside : b ≤ 
             let (e, a, q) = export-hash es i l in
             rw (left-table, ← hashes-mapped es, slots-at rs (exportHashes es) (drop (length es) out) i (omega arith))
             (slot-of (getD (exportHashes es) i []) (rw q (sound .exports e a)));
+        space = space;
         exports-long = simp (length-append, length-drop) (omega arith);
         exports-rest = drop-at (slotsNamed rs (exportHashes es)) (drop (length es) out) (length es) (k ∙ m);
       }
@@ -172,7 +173,7 @@ module _ (file w out : List ℕ) (base : ℤ) (e : loadRefusal file w base out �
   accepted-as sound b q =
       load-unrefused file w base out e ∙ rw (q, nodes-read sound, exports-read sound)
 
-pub load-leaves : LoadLeaves
+pub load-leaves : LoadLeaves load
 load-leaves file words words′ base exports exports′ a e y =
     elim (ℕ-discrete (loadRefusal file words base exports) 0) [
       | no d ↦

@@ -1,14 +1,15 @@
 -- A refusal changes nothing and has a number of the list, and the number tells which case is answered: by the call's verdict.
-use Prim.Native.Nat.{ℕ}
-use mathlib.Core.Path.{_≡_, refl, sym, _∙_, subst}
+use Prim.Native.Nat.{ℕ, _≤_}
+use mathlib.Core.Path.{_≡_, refl, sym, ap, _∙_, subst}
 use mathlib.Core.Bool.{false, false≢true}
 use mathlib.Core.List.{List}
 use mathlib.Core.Logic.{_⊎_, inl, inr}
+use native.Mathlib.Omega.{arith}
 use Rattle.engine.specs.declared.RunAnswer.{RunAnswer}
 use Rattle.engine.specs.declared.RunAnswer.the-variants.{Refused, Done, Stopped}
 use Rattle.engine.specs.Run.{Ran, ran}
-use Rattle.engine.specs.Answer.{numbers}
-use Rattle.guarantees.specs.Run.{started as let-start, RefusedWith, RefusalKeeps, Tells, NumberTells}
+use Rattle.engine.specs.Answer.{Numbers, numbers}
+use Rattle.guarantees.specs.Run.{started as let-start, RefusedWith, RefusalKeeps, Tells, OneAnswer, NumberTells}
 use Rattle.guarantees.proofs.Verdict.{Ended, Unrefused, unrefused, Verdict, out, misplaced, damaged, started, verdict}
 
 module _ (w j v k : List ℕ) (a : RunAnswer) where
@@ -42,3 +43,35 @@ tells {r = r} (started a b c h) = ended-tells r h
 
 pub number-tells : NumberTells
 number-tells w v j k base f x used fuel a e = subst Telling e (tells (verdict w j base f x used fuel))
+
+-- a refusal's number is not 0, and below a stop's
+refused-above : {n : ℕ} → (n ≡ 21) ⊎ ((n ≡ 23) ⊎ (n ≡ 24)) → n ≡ 0 → ⊥
+refused-above (inl h) e = omega arith
+refused-above (inr (inl h)) e = omega arith
+refused-above (inr (inr h)) e = omega arith
+
+refused-below : {n m : ℕ} → (n ≡ 21) ⊎ ((n ≡ 23) ⊎ (n ≡ 24)) → 31 ≤ m → n ≡ m → ⊥
+refused-below (inl h) l e = omega arith
+refused-below (inr (inl h)) l e = omega arith
+refused-below (inr (inr h)) l e = omega arith
+
+-- and the numbers tell the answer
+pub one-answer : OneAnswer
+one-answer (Refused n) (Refused m) h g e = ap Refused (ap (λ (x : Numbers). x .number) e)
+one-answer (Done s k u) (Done s′ k′ u′) h g e =
+    cc (ap (λ (x : Numbers). x .slot) e, ap (λ (x : Numbers). x .steps) e, ap (λ (x : Numbers). x .used) e)
+one-answer (Stopped n f x k u w) (Stopped n′ f′ x′ k′ u′ w′) h g e =
+    cc (
+      ap (λ (x : Numbers). x .number) e,
+      ap (λ (x : Numbers). x .f) e,
+      ap (λ (x : Numbers). x .x) e,
+      ap (λ (x : Numbers). x .steps) e,
+      ap (λ (x : Numbers). x .used) e,
+      ap (λ (x : Numbers). x .waiting) e,
+    )
+one-answer (Refused n) (Done s k u) h g e = absurd (refused-above h (ap (λ (x : Numbers). x .number) e))
+one-answer (Refused n) (Stopped m f x k u w) h g e = absurd (refused-below h (g .0) (ap (λ (x : Numbers). x .number) e))
+one-answer (Done s k u) (Refused n) h g e = absurd (refused-above g (sym (ap (λ (x : Numbers). x .number) e)))
+one-answer (Done s k u) (Stopped m f x k′ u′ w) h g e = let q = ap (λ (x : Numbers). x .number) e in absurd (omega (arith, g .0, q))
+one-answer (Stopped m f x k u w) (Refused n) h g e = absurd (refused-below g (h .0) (sym (ap (λ (x : Numbers). x .number) e)))
+one-answer (Stopped m f x k u w) (Done s k′ u′) h g e = let q = ap (λ (x : Numbers). x .number) e in absurd (omega (arith, h .0, q))

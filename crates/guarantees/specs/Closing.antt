@@ -1,35 +1,33 @@
 -- Why no wrong definition keeps the demands: nothing is left open by them, and the definitions that they are said in agree with
 -- others of the same things. None of this has to be believed to believe the demands.
 use Prim.Native.Nat.{ℕ}
-use mathlib.Core.Path.{_≡_}
 use mathlib.Core.List.{List}
 use lib.ListN.{drop}
-use lib.IntN.{ℤ, pos}
+use lib.IntN.{ℤ}
 use Rattle.calculus.specs.Laws as machine
+use Rattle.calculus.specs.Cases.{CasesHold, FurtherHold}
 use Rattle.table.specs.SoundFrames.{OneFrameList}
 use Rattle.engine.specs.Run.{run}
+use Rattle.soundness.specs.Sound.{Sound}
 use Rattle.soundness.specs.Meaning as checks
 use Rattle.soundness.specs.ExportCalls.{OnlyName, IndexTells, OnlyIndex}
 use Rattle.soundness.specs.Skipped.{SkippedUnread}
 use Rattle.soundness.specs.NodesMeaning.{HashedBytes, LongestReached}
-use Rattle.loader.specs.declared.LoadAnswer.{LoadAnswer}
-use Rattle.loader.specs.Answer.{numbers}
-use Rattle.loader.specs.Load.{loaded, load}
-use Rattle.guarantees.specs.Run.{RunCall, NumberTells}
+use Rattle.loader.specs.Answer.{Numbers}
+use Rattle.guarantees.specs.Run.{RunCall, NumberTells, OneAnswer}
 use Rattle.guarantees.specs.OnlyRun.{OnlyRun, SameAll}
 use Rattle.guarantees.specs.Session.{Request, Bring, Table, SessionBlind}
-use Rattle.guarantees.specs.Load.{OnlyLoad, OneOrder, OneStart, LoadSkips}
+use Rattle.guarantees.specs.Load.{Loads, OnlyLoad, OneOrder, OneStart, LoadSkips}
 use Rattle.guarantees.specs.Demands.{AllRuns}
 
 -- A call for which demand 3 holds goes the same as the run call over every list after an accepted load.
 abbrev pub OnlyRuns : Type 0
 OnlyRuns =
     (call : RunCall) → AllRuns call →
-    (file words words′ : List ℕ) (base : ℤ) (exports exports′ : List ℕ) (a : LoadAnswer) →
-    load file words base exports ≡ loaded words′ exports′ a → numbers a .number ≡ 0 →
-    (b : ℕ) × (base ≡ pos b) × ((requests : List Request) → Bring b requests →
-    let t : Table = record { words = drop b words′; used = numbers a .nodes } in
-    SameAll call run b (numbers a .nodes) t t requests)
+    (file words words′ : List ℕ) (base : ℤ) (exports exports′ : List ℕ) (n : Numbers) →
+    (l : Loads file words base exports words′ exports′ n) (requests : List Request) → Bring (l .at) requests →
+    let t : Table = record { words = drop (l .at) words′; used = n .nodes } in
+    SameAll call run (l .at) (n .nodes) t t requests
 
 -- Nothing is left open: no other call keeps the promises that the demands make of it.
 pub record Closing : Type 0 where
@@ -41,8 +39,9 @@ pub record Closing : Type 0 where
   -- of a run, but for which of two slots with one tree is named: of single calls, and of all lists
   pub only-run : OnlyRun
   pub only-runs : OnlyRuns
-  -- the number tells which case of an answer it is
+  -- the number tells which case of an answer it is, and the numbers the whole answer
   pub run-tells : NumberTells
+  pub one-answer : OneAnswer
   pub index-tells : IndexTells
   -- what the demands say to exist is there once: the order of placing, the store that a load starts with, the jobs' frames
   pub one-order : OneOrder
@@ -54,6 +53,8 @@ pub record Agreeing : Type 0 where
   -- sound is that none of 1 to 20 applies, described that none of 1 to 14 does
   pub sound-exactly : checks.SoundExactly
   pub described : checks.DescribedExactly
+  -- some bundle is sound, so that no promise about accepted bundles is empty
+  pub some-bundle : (file : List ℕ) × Sound file
   -- a section of any other type is skipped unread
   pub skipped-unread : SkippedUnread
   pub load-skips : LoadSkips
@@ -61,7 +62,10 @@ pub record Agreeing : Type 0 where
   pub hashed-bytes : HashedBytes
   pub longest-nodes : checks.LongestNodes
   pub longest-reached : LongestReached
-  -- the machine is done just where the seven rules say so, its steps are the fuel spent, and it stops just where document 01 says
+  -- the marked cases of document 01, and further ones, hold of the machine
+  pub marked-cases : CasesHold
+  pub further-cases : FurtherHold
+  -- it is done just where the seven rules say so, its steps are the fuel spent, and it stops just where document 01 says
   pub done-exactly : machine.DoneExactly
   pub steps-spent : machine.StepsSpent
   pub stops-exactly : machine.StopsExactly

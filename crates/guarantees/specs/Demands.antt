@@ -23,11 +23,11 @@ use Rattle.soundness.specs.ExportCalls.{index, IndexByName, NoSuchName, EmptyNa
 use Rattle.soundness.specs.FileMeaning.{BigEndian}
 use Rattle.soundness.specs.NodesMeaning.{ReadsChildren}
 use Rattle.loader.specs.declared.LoadAnswer.{LoadAnswer}
-use Rattle.loader.specs.Answer.{numbers}
+use Rattle.loader.specs.Answer.{Numbers, numbers}
 use Rattle.loader.specs.Load.{loaded, load}
 use Rattle.guarantees.specs.Run.{RunCall, RunSimulates, started, RefusalKeeps, RefusedExactly, JobsSound, BaseBlind, DoneStays}
 use Rattle.guarantees.specs.Session.{Request, Bring, AllAlike}
-use Rattle.guarantees.specs.Load.{AcceptedExactly, LoadNumberExactly, LoadRefusalKeeps, Loads, LoadBlind}
+use Rattle.guarantees.specs.Load.{AcceptedExactly, LoadNumberExactly, LoadRefusalKeeps, Loads, LoadLeaves, LoadBlind}
 
 -- slot zero of the table from the base on, a slot in its room, holds the leaf
 abbrev pub ZeroIsLeaf : ℤ → List ℕ → Type 0
@@ -66,9 +66,10 @@ pub record Demand1 : Type 0 where
 -- 2. A bundle is accepted exactly when it is within the limits, fits the lent tables and is sound by the format, the digests and
 -- the node hashes. Otherwise the answer is the lowest number that applies.
 pub record Demand2 : Type 0 where
-  -- of the load; of the check alone, 1 to 20
+  -- of the load, and what it leaves; of the check alone, 1 to 20
   pub load-accepted : AcceptedExactly
   pub load-by-number : LoadNumberExactly load
+  pub load-leaves : LoadLeaves load
   pub check-accepted : checks.AcceptedExactly
   pub check-by-number : NumberExactly refusal
   -- numbers are big-endian; what a payload names is read
@@ -76,16 +77,13 @@ pub record Demand2 : Type 0 where
   pub reads-children : ReadsChildren
 
 -- 3. For every accepted bundle and every list of runs after it, refused ones included, the runs go as the bundle's own trees
--- do on the reference machine. One claim about the whole list: from the table and the used count that the load left, any
+-- do on the reference machine. One claim about the whole list: from the table and the used count that the load left (Loads), any
 -- requests, whatever each finds before the base, with the store that starts with the records' trees in the order of placing.
 abbrev pub AllRuns : RunCall → Type 0
 AllRuns call =
-    (file words words′ : List ℕ) (base : ℤ) (exports exports′ : List ℕ) (a : LoadAnswer) →
-    load file words base exports ≡ loaded words′ exports′ a → numbers a .number ≡ 0 →
-    (l : Loads file words base exports words′ exports′ (numbers a)) ×
-    ((requests : List Request) → Bring (l .at) requests →
-    AllAlike call (l .at) (room (drop (l .at) words)) (record { words = drop (l .at) words′; used = numbers a .nodes })
-    (l .store) requests)
+    (file words words′ : List ℕ) (base : ℤ) (exports exports′ : List ℕ) (n : Numbers) →
+    (l : Loads file words base exports words′ exports′ n) (requests : List Request) → Bring (l .at) requests →
+    AllAlike call (l .at) (room (drop (l .at) words)) (record { words = drop (l .at) words′; used = n .nodes }) (l .store) requests
 
 pub record Demand3 : Type 0 where
   pub all-runs : AllRuns run

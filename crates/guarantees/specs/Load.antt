@@ -102,17 +102,16 @@ pub record Loads (file words : List ℕ) (base : ℤ) (exports words′ exports�
   pub export-slots : (i : ℕ) → i < answer .exports →
       NamedSlot (sound .nodes) order (drop at words′) (getD exports′ i 0)
       (getD (map (λ (e : Export). e .hash) (sound .described .manifest .exports)) i [])
+  pub space : answer .exports ≤ length exports
   pub exports-long : length exports′ ≡ length exports
   pub exports-rest : drop (answer .exports) exports′ ≡ drop (answer .exports) exports
 
-abbrev pub LeavesTrees : LoadCall → Type 0
-LeavesTrees call =
+-- what an accepted load leaves
+abbrev pub LoadLeaves : LoadCall → Type 0
+LoadLeaves call =
     (file words words′ : List ℕ) (base : ℤ) (exports exports′ : List ℕ) (a : LoadAnswer) →
     call file words base exports ≡ loaded words′ exports′ a → numbers a .number ≡ 0 →
     Loads file words base exports words′ exports′ (numbers a)
-
-abbrev pub LoadLeaves : Type 0
-LoadLeaves = LeavesTrees load
 
 -- A sound bundle has just one order of placing, and just one store, however its soundness is shown.
 abbrev pub OneOrder : Type 0
@@ -129,7 +128,7 @@ OneStart =
 -- that refuses everything, gives one fixed answer, puts a tree into another slot or writes a word more breaks one of them.
 abbrev pub OnlyLoad : Type 0
 OnlyLoad =
-    (call : LoadCall) → LoadNumberExactly call → LoadRefusalKeeps call → LeavesTrees call →
+    (call : LoadCall) → LoadNumberExactly call → LoadRefusalKeeps call → LoadLeaves call →
     (file words : List ℕ) (base : ℤ) (exports : List ℕ) → call file words base exports ≡ load file words base exports
 
 -- ---- the words before the base

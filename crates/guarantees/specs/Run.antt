@@ -59,6 +59,9 @@ Tells (Refused n) = (n ≡ 21) ⊎ ((n ≡ 23) ⊎ (n ≡ 24))
 Tells (Done slot steps used) = Unit {0}
 Tells (Stopped n f x steps used waiting) = (31 ≤ n) × (n ≤ 33)
 
+abbrev pub OneAnswer : Type 0
+OneAnswer = (a a′ : RunAnswer) → Tells a → Tells a′ → numbers a ≡ numbers a′ → a ≡ a′
+
 abbrev pub NumberTells : Type 0
 NumberTells =
     (w v j k : List ℕ) (base f x : ℤ) (used fuel : ℕ) (a : RunAnswer) → run w base f x used fuel j ≡ ran v k a → Tells a

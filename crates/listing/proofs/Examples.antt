@@ -1,4 +1,4 @@
--- The two outputs that document 01 shows.
+-- The two outputs that document 01 shows, and others.
 use Prim.Native.Nat.{ℕ}
 use mathlib.Core.Path.{_≡_, refl}
 use mathlib.Core.List.{List, [], _∷_, _++_}
@@ -25,3 +25,10 @@ pub largest : (words : List ℕ) → report (loaded words (511 ∷ []) (Accepted
     ascii "ok nodes 512 exports 1" ++ (newline ++ (ascii "511 10 ten bytes." ++ newline))
 unfolding report okLine lines line digits
 largest words = refl
+
+-- two exports, in manifest order
+pub two-exports : (words : List ℕ) →
+    report (loaded words (3 ∷ 12 ∷ []) (Accepted 20 2)) (ascii "red" ∷ ascii "blue" ∷ []) ≡
+    ascii "ok nodes 20 exports 2" ++ (newline ++ (ascii "3 3 red" ++ (newline ++ (ascii "12 4 blue" ++ newline))))
+unfolding report okLine lines line digits
+two-exports words = refl

@@ -8,19 +8,16 @@ use lib.Dec.{ltb}
 use Rattle.sha256_block.specs.declared.Work.{Work}
 
 infixl 65 _⊞_
--- §3.2, operations on words. ∧, ∨ and ⊕ are bitAnd, bitOr and bitXor; ¬ x is the complement
+-- §3.2, operations on words. ∧, ∨ and ⊕ are bitAnd, bitOr and bitXor; ¬ is the complement, ⊞ addition modulo 2 ^ 32
 abbrev pub complement : ℕ → ℕ
 complement x = 2 ^ 32 - 1 - x
 
--- addition modulo 2 ^ 32
 abbrev pub _⊞_ : ℕ → ℕ → ℕ
 a ⊞ b = (a + b) % 2 ^ 32
 
--- the right shift by n bits
 abbrev pub SHR : ℕ → ℕ → ℕ
 SHR n x = x / 2 ^ n
 
--- the rotation to the right by n bits
 abbrev pub ROTR : ℕ → ℕ → ℕ
 ROTR n x = bitOr (SHR n x) ((x * 2 ^ (32 - n)) % 2 ^ 32)
 
@@ -60,7 +57,7 @@ unfoldable pub tabulate : ℕ → (ℕ → ℕ) → List ℕ
 tabulate zero f = []
 tabulate (suc n) f = tabulate n f ++ (f n ∷ [])
 
--- §5.1.1: behind a message of n bytes go a bit 1, zeros up to 8 bytes before the end of a block, and the number of bits
+-- §5.1.1: after a message of n bytes go a bit 1, zeros up to 8 bytes before the end of a block, and the number of bits
 -- in 64 bits. Of a message that the standard allows, below 2 ^ 64 bits, `% 2 ^ 64` takes nothing away
 abbrev pub zeros : ℕ → ℕ
 zeros n = (119 - n % 64) % 64

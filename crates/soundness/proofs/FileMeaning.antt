@@ -1,17 +1,20 @@
 -- What is read of a file is what it has: proofs of specs/FileMeaning.antt.
-use Prim.Native.Nat.{_+_, _*_, _≤_}
+use Prim.Native.Nat.{ℕ, zero, suc, _+_, _*_, _≤_}
 use mathlib.Core.Path.{_≡_, refl, sym, ap, subst, _∙_}
-use mathlib.Core.List.{List, [], _∷_}
+use mathlib.Core.List.{List, [], _∷_, map}
 use native.Mathlib.Omega.{arith}
 use lib.ListN.{length}
 use Rattle.wire.specs.Wire.{bigEndian}
 use Rattle.wire.proofs.Numbers.{big-endian-append}
+use Rattle.bundle.specs.declared.directory.Entry.{Entry as Read}
 use Rattle.bundle.specs.Header.{sectionCount, directoryOffset}
-use Rattle.soundness.specs.FileGrammar.{Header, HasHeader, Entry, HasDirectory}
+use Rattle.bundle.specs.Directory.{entryAt, entriesFrom, entries, digestOf}
+use Rattle.soundness.specs.FileGrammar.{Header, HasHeader, Entry, HasDirectory, OccursAgain}
 use Rattle.soundness.specs.FileMeaning.{BigEndian, HeaderExactly, OneHeader, ReadsHeader, DirectoryExactly, OneDirectory}
-use Rattle.soundness.specs.FileMeaning.{SectionExactly, OneSection}
-use Rattle.soundness.proofs.FileFormat.{readHeader, readDirectory, one-header, has-header, one-directory, has-directory}
-use Rattle.soundness.proofs.FileFormat.{one-section, has-section}
+use Rattle.soundness.specs.FileMeaning.{ReadsDirectory, SectionExactly, OneSection, ReadsSection}
+use Rattle.soundness.proofs.FileFormat.{readHeader, readEntry, readEntries, readDirectory, one-header, has-header}
+use Rattle.soundness.proofs.FileFormat.{one-directory, has-directory, entry-read, one-section, has-section}
+use Rattle.soundness.proofs.Mirror.{once-mirrored, section-mirrored}
 
 pub big-endian : BigEndian
 unfolding bigEndian
@@ -38,8 +41,26 @@ directory-exactly file h k = (
 pub only-directory : OneDirectory
 only-directory file h g es ds k l = sym (one-directory k .1) ∙ one-directory l .1
 
+-- entry by entry
+entries-read : (file : List ℕ) (n p : ℕ) →
+    map (λ (r : Read). r .kind ∷ r .flags ∷ r .compression ∷ r .algorithm ∷ r .offset ∷ r .size ∷ digestOf file r)
+    (entriesFrom file n p) ≡
+    map (λ (e : Entry). e .kind ∷ e .flags ∷ e .compression ∷ e .algorithm ∷ e .offset ∷ e .size ∷ e .digest) (readEntries file n p)
+unfolding entriesFrom entryAt readEntries readEntry
+entries-read file zero p = refl
+entries-read file (suc n) p = rw (entries-read file n (p + 60))
+
+pub reads-directory : ReadsDirectory
+unfolding entries sectionCount readHeader
+reads-directory file h es k = rw (← one-directory k .1) (entries-read file (sectionCount file) 32)
+
 pub section-exactly : SectionExactly
 section-exactly file e = (λ h. (_, has-section file e h), λ k. one-section (k .1) .0)
 
 pub only-section : OneSection
 only-section file e s t k l = sym (one-section k .1) ∙ one-section l .1
+
+pub reads-section : ReadsSection
+reads-section file h es kind s k (some, once) t =
+    let few = once-mirrored file kind .1 (λ o. once (subst (OccursAgain kind) (one-directory k .1) o)) in
+    section-mirrored file kind (t .entry) (entry-read (t .has-entry)) (t .of-kind) few ∙ one-section (t .is-section) .1

@@ -44,8 +44,7 @@ pub data Applies (file : List ℕ) : ℕ → Type 0 where
   magic : {h : Header} → HasHeader h file → (h .magic ≡ ascii "ARBORICX" → ⊥) → Applies file 3
   major : {h : Header} → HasHeader h file → (h .major ≡ 1 → ⊥) → Applies file 4
   -- section count outside 1 to 16, directory offset not 32, or directory past the end of file
-  sections : {h : Header} → HasHeader h file →
-      (h .sections < 1) ⊎ (16 < h .sections) → Applies file 5
+  sections : {h : Header} → HasHeader h file → (h .sections < 1) ⊎ (16 < h .sections) → Applies file 5
   directory-offset : {h : Header} → HasHeader h file → (h .directory ≡ 32 → ⊥) → Applies file 5
   directory-end : {h : Header} → HasHeader h file → length file < 32 + 60 * h .sections → Applies file 5
   -- some entry of unknown type is critical
