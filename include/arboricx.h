@@ -6,8 +6,8 @@
  * Every call takes any bytes, any numbers and any tables. It checks everything itself, it ends, and it answers bad
  * input with a number of the list below. It allocates nothing, keeps nothing between calls, and calls nothing but
  * memcpy and memset of the C library. It needs at most ARBORICX_STACK bytes of stack.
- * What is said here is proved of the calls' source (docs/GUARANTEES.md), but for the stack, which is measured. What C
- * has to keep (docs/TRUST.md):
+ * What is said here of answers and tables is proved of the calls' source (docs/GUARANTEES.md); the stack is measured,
+ * and that nothing else is called is tested. What C has to keep (docs/TRUST.md):
  *
  *  - A pointer and its length name memory that is there: `file`, `name` and `bytes` may be read, all else may be read and
  *    written, for as long as the call lasts, and nobody else writes it meanwhile.

@@ -33,6 +33,6 @@ OneTreeEach =
     (file : List ℕ) (sound : Sound file) (r : Node) → Among r (sound .nodes) →
     (t : Tree) × Names (sound .nodes) (r .hash) t × ((u : Tree) → Names (sound .nodes) (r .hash) u → u ≡ t)
 
--- "the longest nodes section is 51,656 bytes": no sound file has a longer one
+-- "the longest nodes section is 8 + 37 + 511 × 101 = 51,656 bytes": no sound file has a longer one
 abbrev pub LongestNodes : Type 0
 LongestNodes = (file : List ℕ) (sound : Sound file) → length (sound .nodes-bytes) ≤ 51656

@@ -25,7 +25,7 @@ slot n = record { 0 = n }
 unfoldable pub room : List ℕ → ℕ
 room w = atMost maxSlots (length w / width)
 
--- "Room is the smaller of 65,535 and half the words, rounded down"
+-- "Room is the smaller of 65,535 and half the words from the base on, rounded down"
 abbrev pub RoomIs : Type 0
 RoomIs = (w : List ℕ) → (2 * room w ≤ length w) × (room w ≤ 65535) × ((room w ≡ 65535) ⊎ (length w < 2 * room w + 2))
 
