@@ -1,8 +1,8 @@
 """The declarations of crates/*/specs, and what each of them names: what tests/guarantees.py and tests/believe.py know of antt.
 
-A declaration is a `pub data`, `pub record`, `abbrev pub` or `unfoldable pub` at the start of a line, with the comment right above it. A
-name in it is looked up as antt does: a variable that is bound there, a declaration of the file, or what a `use` line brings. Names
-of the kit's library mean nothing here.
+A declaration is a `pub data`, `pub record`, `abbrev pub` or `unfoldable pub` at the start of a line, with the comment right above it; a
+line of another kind is a fault. A word of it counts as a name of whatever is called so in the file or is brought by a `use` line, even
+where it is a variable, a label or a field there. Names of the kit's library mean nothing here.
 """
 
 import functools
@@ -11,7 +11,16 @@ import re
 
 ROOT = pathlib.Path(__file__).resolve().parent.parent
 HEAD = re.compile(r"(pub data|pub record|abbrev pub|unfoldable pub) (\S+)")
-TOKEN = re.compile(r"[(){};,]|[^\s(){};,]+")
+USE = re.compile(r"^use ([^\n{]*(?:\{[^}]*\})?)$", re.M)
+# the first line of a field or of a constructor
+PART = {"pub record": re.compile(r"^  pub (\S+) :", re.M), "pub data": re.compile(r"^  (\S+) :", re.M)}
+# the calls' own definitions: the contracts of the public functions are equations with them
+CALLS = {
+    "bundle/Checks": ["refusal", "nameRefusal"],
+    "bundle/Exports": ["namePart", "nameCall", "indexCall"],
+    "loader/Load": ["load"],
+    "engine/Run": ["run"],
+}
 
 
 class Fault(Exception):
@@ -25,14 +34,23 @@ class Item:
         self.module, self.kind, self.name, self.start, self.lines = module, kind, name, start, lines
         text = "\n".join(re.sub(r"(^|\s)--.*", "", re.sub(r'"[^"]*"', "", line)) for line in lines)
         self.code = text[HEAD.search(text).start() :]
-        inner = r"^  pub (\S+) :" if kind == "pub record" else r"^  (\S+) :"
-        self.inner = re.findall(inner, self.code, re.M) if kind in ("pub record", "pub data") else []
+        # what stands before its fields, constructors or clauses; and the type of each field or constructor
+        self.head, *pieces = PART[kind].split(self.code) if kind in PART else re.split(r"\n(?=\S)", self.code)
+        self.inner = dict(zip(pieces[::2], pieces[1::2])) if kind in PART else {}
 
     def __repr__(self):
         return f"{self.module}.{self.name}"
 
     def count(self, comments=True):
         return sum(1 for line in self.lines if line.strip() and (comments or not line.strip().startswith("--")))
+
+    def has(self, line):
+        """Whether a line may be one of its own: a field, a constructor, a clause, or the rest of one."""
+        if line.startswith(" "):
+            return self.kind not in PART or line.startswith("   ") or bool(PART[self.kind].match(line))
+        left = re.split(r" =(?: |$)", line)[0].split()
+        parts = self.name.split("_")
+        return self.kind not in PART and ":" not in left and parts[0] in ("", left[0]) and all(part in left for part in parts if part)
 
 
 class Module:
@@ -53,11 +71,27 @@ class Module:
                 end -= 1
             kind, named = HEAD.match(lines[head]).groups()
             self.items[named] = Item(self, kind, named, head + 1, lines[start:end])
-        self.makes = {c: item for item in self.items.values() if item.kind == "pub data" for c in item.inner}
         self.brought, self.aliases = uses(path, text)
+        self.look()
 
     def __repr__(self):
         return f"{self.crate}/{self.name}"
+
+    def look(self):
+        """A line of no known kind is a fault, so that no declaration is passed over; so is a `use` of neither specs nor the kit."""
+        for what in USE.findall(self.text):
+            if not re.match(r"(Prim|mathlib|lib|Rattle·\w+(·specs)?\.specs)\.", what):
+                raise Fault(f"{self.path}: use {what}: neither of the kit's library nor of specs")
+        item = None
+        for number, line in enumerate(USE.sub(lambda use: "\n" * use[0].count("\n"), self.text).split("\n"), 1):
+            if HEAD.match(line):
+                item = self.items[HEAD.match(line)[2]]
+            elif line.strip() and not re.match(r" *--|infix[lr]? ", line) and not (item and item.has(line)):
+                raise Fault(f"{self.path}:{number}: a line of a kind that tests/antt.py does not know: {line}")
+
+    def called(self, name):
+        """The declarations of that name, or with a constructor of that name."""
+        return [i for i in self.items.values() if i.name == name or (i.kind == "pub data" and name in i.inner)]
 
     def own(self):
         """The files of its own crate that it uses."""
@@ -81,7 +115,7 @@ def uses(path, text):
 
     Rattle.crate.specs.Module.{A, B as C}, or Rattle.crate.specs.Module as m; the own crate is Rattle.crate.specs."""
     brought, aliases = {}, {}
-    for what in re.findall(r"^use ([^\n{]*(?:\{[^}]*\})?)", text, re.M):
+    for what in USE.findall(text):
         what = re.sub(r"\s+", " ", what).strip()
         found = re.fullmatch(r"Rattle·(\w+)(?:·specs)?\.specs\.(.+?)(?:\.\{(.*)\}| as (\S+))", what)
         if not found:
@@ -89,12 +123,13 @@ def uses(path, text):
                 raise Fault(f"{path}: use {what}: not understood")
             continue
         crate, module, names, alias = found.groups()
-        if alias:
-            aliases[alias] = (crate, module)
+        if alias and aliases.setdefault(alias, (crate, module)) != (crate, module):
+            raise Fault(f"{path}: two `use` lines bring {alias}")
         for name in (names or "").split(","):
             if name.strip():
                 old, _, new = name.strip().partition(" as ")
-                brought[new or old] = (crate, module, old)
+                if brought.setdefault(new or old, (crate, module, old)) != (crate, module, old):
+                    raise Fault(f"{path}: two `use` lines bring {new or old}")
     return brought, aliases
 
 
@@ -109,6 +144,8 @@ class Specs:
             name = rest.removesuffix(".antt").replace("/", ".")
             if name != "Lib":
                 self.modules[crate, name] = module_of(crate, name, path, text)
+            elif not re.fullmatch(r"((--.*|pub mod \S+)?\n)*", text):
+                raise Fault(f"{path}: a line that is no 'pub mod'")
         self.order = []
         for crate in crates():
             self.in_order(crate, texts.get(f"crates/{crate}/specs/Lib.antt", ""))
@@ -123,118 +160,46 @@ class Specs:
             self.order.append(self.modules[crate, ready[0]])
             waiting.remove(ready[0])
 
-    def item(self, module, name):
-        """The declaration of that name, or whose constructor it is; None where there is none."""
-        return module.items.get(name) or module.makes.get(name)
-
     def find(self, crate, module, name, whence):
-        """What a `use` line brings: a declaration, or a type that is declared in code, by its name."""
+        """What a name of another file stands for: declarations, or a type that is declared in code, by its name."""
         if module.startswith("declared."):
-            return f"{crate}::{module.removeprefix('declared.').removesuffix('.the-variants').replace('.', '::')}", "the-variants" in module
+            return [f"{crate}::{module.removeprefix('declared.').removesuffix('.the-variants').replace('.', '::')}"]
         if (crate, module) not in self.modules:
             raise Fault(f"{whence.path}: there is no {crate}/{module}")
-        found = self.item(self.modules[crate, module], name)
+        found = self.modules[crate, module].called(name)
         if not found:
             raise Fault(f"{whence.path}: {crate}/{module} has no {name}")
-        return found, name in self.modules[crate, module].makes
-
-    def scope(self, module):
-        """Each name of a file's scope, and what it stands for: a declaration or a declared type, and whether it is a constructor."""
-        names = {n: (i, False) for n, i in module.items.items()} | {c: (i, True) for c, i in module.makes.items()}
-        for name, target in module.brought.items():
-            names[name] = self.find(*target, module)
-        for name in [n for n in names if "_" in n.strip("_") or n.startswith("_") or n.endswith("_")]:
-            for part in filter(None, name.split("_")):
-                names[part] = names[name]
-        return names
-
-    def names(self, item, signature_only=False):
-        """What a declaration names: declarations, and types that are declared in code, by their names."""
-        scope, found = self.scope(item.module), []
-        head, pieces = split(item)
-
-        def look(text, bound, clause=False):
-            """Looks up the names of a piece of text; answers the names that are bound at its end."""
-            tokens = TOKEN.findall(text)
-            left = clause  # on the left side of a clause a name that is no constructor is bound
-            for i, token in enumerate(tokens):
-                label = tokens[i + 1 : i + 2] == ["="] and i > 0 and tokens[i - 1] in ("{", ";")
-                if left:
-                    left = token != "="
-                    if token in scope and scope[token][1]:
-                        found.append(scope[token][0])
-                    else:
-                        bound = bound | {token}
-                elif token in ("(", "{"):
-                    bound = bound | binders(tokens, i + 1)
-                elif token == "λ":
-                    bound = bound | lambda_names(tokens, i + 1)
-                elif token == "let":
-                    bound = bound | let_names(tokens, i + 1)
-                elif label or token in bound:
-                    continue
-                elif token in scope:
-                    found.append(scope[token][0])
-                elif "." in token and token.split(".")[0] in item.module.aliases:
-                    alias, name = token.split(".", 1)
-                    found.append(self.find(*item.module.aliases[alias], name, item.module)[0])
-            return bound
-
-        bound = look(head, {item.name})
-        if signature_only:
-            return found
-        for name, text in pieces:
-            if item.kind == "pub record":
-                look(text, bound)
-                bound = bound | {name}
-            elif item.kind == "pub data":
-                look(text, bound)
-            else:
-                look(text, {item.name, *filter(None, item.name.split("_"))}, clause=True)
         return found
 
+    def scope(self, module):
+        """Each name of a file's scope, and each part of a name like _when_: what it may stand for."""
+        names = {}
+        for item in module.items.values():
+            for name in [item.name, *(item.inner if item.kind == "pub data" else [])]:
+                names.setdefault(name, []).append(item)
+        for name, target in module.brought.items():
+            names.setdefault(name, []).extend(self.find(*target, module))
+        for name in [n for n in names if "_" in n]:
+            for part in filter(None, name.split("_")):
+                names.setdefault(part, []).extend(names[name])
+        return names
 
-def split(item):
-    """A declaration's head, and its pieces: fields, constructors, or clauses; each with its name."""
-    if item.kind in ("pub data", "pub record"):
-        start = r"^  (?:pub )?(\S+) :"
-        head = re.split(start, item.code, maxsplit=1, flags=re.M)[0]
-        cut = [m.start() for m in re.finditer(start, item.code, re.M)]
-        return HEAD.sub("", head), [(re.match(start, item.code[a:])[1], re.sub(start, "", item.code[a:b], count=1))
-                                    for a, b in zip(cut, [*cut[1:], len(item.code)])]
-    lines = item.code.split("\n")
-    cut = [i for i, line in enumerate(lines) if i > 0 and line[:1].strip()]
-    head = "\n".join(lines[: cut[0] if cut else len(lines)])
-    return HEAD.sub("", head), [(item.name, "\n".join(lines[a:b])) for a, b in zip(cut, [*cut[1:], len(lines)])]
+    def named(self, module, text):
+        """What some text of a file may name: declarations, and types that are declared in code, by their names."""
+        scope, found = self.scope(module), []
+        for word in re.findall(r"[^\s(){};,]+", text):
+            before = None
+            for part in word.split("."):
+                if part and before in module.aliases:
+                    found += self.find(*module.aliases[before], part, module)
+                else:
+                    found += scope.get(part, [])
+                before = part
+        return found
 
-
-def binders(tokens, i):
-    """The names of a group (a b : T) or {a b : T}, from the token after its bracket on."""
-    names = set()
-    while i < len(tokens) and tokens[i] not in "(){};,=":
-        if tokens[i] == ":":
-            return names
-        names.add(tokens[i])
-        i += 1
-    return set()
-
-
-def lambda_names(tokens, i):
-    names = set()
-    while i < len(tokens):
-        names.add(tokens[i].rstrip("."))
-        if tokens[i].endswith("."):
-            return names
-        i += 1
-    return names
-
-
-def let_names(tokens, i):
-    names = set()
-    while i < len(tokens) and tokens[i] not in (":", "="):
-        names.add(tokens[i])
-        i += 1
-    return names
+    def names(self, item, signature_only=False):
+        """What a declaration names, or its signature."""
+        return self.named(item.module, item.head if signature_only else item.code)
 
 
 def crates():

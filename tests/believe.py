@@ -8,7 +8,8 @@
 
 To believe are the demands' statements (the records `Demand..`), and whatever a definition to believe names. It stops at the calls' own
 definitions: the theorems say what these do, the contracts that the code equals them; and at definitions that a field of the demands
-determines. Types that are declared in code are named only, and the kit's library is not followed. Who calls from C reads crates/arboricx too.
+determines. Types that are declared in code are named only, and the kit's library is not followed. A second list has what the closing
+records name beyond that: nobody has to believe it. Who calls from C reads crates/arboricx too.
 
 Then the same is asked of pages and definitions that are wrong, each in one way; the test fails if one of them passes.
 """
@@ -21,14 +22,9 @@ import guarantees
 
 PAGE = "docs/TRUST.md"
 DEMANDS = "crates/guarantees/specs/Demands.antt"
-# lines without comments; what a reader can be asked to believe
+CLOSING = "crates/guarantees/specs/Closing.antt"
+# lines with their comments, blank lines and `use` lines left out; a reader can be asked to believe fewer
 MOST = 1100
-CALLS = {
-    "bundle/Checks": ["refusal", "nameRefusal"],
-    "bundle/Exports": ["namePart", "nameCall", "indexCall"],
-    "loader/Load": ["load"],
-    "engine/Run": ["run"],
-}
 # definitions that a field of the demands determines, wherever the demands name them
 FIXED = {
     "wire/Wire": {"bigEndian": "Demand2.big-endian"},
@@ -40,50 +36,67 @@ FIXED = {
 
 
 class Closure:
-    """The definitions to believe in reading order, the calls and fixed definitions where it stops, and the declared types that are named."""
+    """The definitions to believe and those of the closing records, in reading order; the calls and fixed definitions where both stop, and
+    the declared types that are named."""
 
     def __init__(self, specs):
         self.specs = specs
-        self.calls = [self.named(module, name) for module, names in CALLS.items() for name in names]
-        self.fixed = {self.named(module, name): field for module, names in FIXED.items() for name, field in names.items()}
+        self.calls = [self.definition(module, name) for module, names in antt.CALLS.items() for name in names]
+        self.fixed = {self.definition(module, name): field for module, names in FIXED.items() for name, field in names.items()}
+        self.stops = {*self.calls, *self.fixed}
         for item, field in self.fixed.items():
-            record, name = field.split(".")
-            if name not in self.named("guarantees/Demands", record).inner:
-                raise antt.Fault(f"{DEMANDS} has no {field}, which is to determine {item}")
-        stops = {*self.calls, *self.fixed}
-        roots = [i for m in specs.order for i in m.items.values() if i.kind == "pub record" and i.name.startswith("Demand")]
-        seen, declared, waiting = set(), set(), roots
+            self.determines(field, item)
+        records = [i for m in specs.order for i in m.items.values() if i.kind == "pub record"]
+        read = self.reached([i for i in records if i.name.startswith("Demand")])
+        more = self.reached([i for i in records if i.module.path == CLOSING]) - read
+        self.declared = sorted(i for i in read | more if isinstance(i, str))
+        self.calls = [c for c in self.calls if c in read | more]
+        self.fixed = {i: field for i, field in self.fixed.items() if i in read | more}
+        self.files, self.closing = self.of_files(read - self.stops), self.of_files(more - self.stops)
+        self.for_c = {m: list(m.items.values()) for m in specs.order if m.crate == "arboricx"}
+        known = read | more | self.stops
+        self.outside = [m for m in specs.order if m not in self.for_c and set(m.items.values()) - known]
+
+    def definition(self, module, name):
+        found = self.specs.modules.get(tuple(module.split("/")))
+        if not found or name not in found.items:
+            raise antt.Fault(f"{module} has no {name}, which is one of CALLS of tests/antt.py or FIXED of tests/believe.py")
+        return found.items[name]
+
+    def determines(self, field, item):
+        """The statement of a field of the demands comes to name a definition; a fault where it does not."""
+        record, name = field.split(".")
+        record = self.definition("guarantees/Demands", record)
+        if name not in record.inner:
+            raise antt.Fault(f"{DEMANDS} has no {field}, which is to determine {item}")
+        if item not in self.reached(self.specs.named(record.module, record.inner[name])):
+            raise antt.Fault(f"{DEMANDS}: {field} does not determine {item}: what it says does not name it")
+
+    def reached(self, roots):
+        """What is named from some declarations on: declarations, and types that are declared in code."""
+        seen, waiting = set(), list(roots)
         while waiting:
             item = waiting.pop()
-            if isinstance(item, str):
-                declared.add(item)
-            elif item not in seen:
+            if item not in seen:
                 seen.add(item)
-                waiting += specs.names(item, signature_only=item in stops)
-        self.declared = sorted(declared)
-        self.calls = [c for c in self.calls if c in seen]
-        self.fixed = {i: field for i, field in self.fixed.items() if i in seen}
-        self.files = {m: [i for i in m.items.values() if i in seen and i not in stops] for m in specs.order}
-        self.for_c = {m: list(m.items.values()) for m in specs.order if m.crate == "arboricx"}
-        self.outside = [m for m, items in self.files.items() if m not in self.for_c and set(m.items.values()) - set(items) - stops]
-        self.files = {m: items for m, items in self.files.items() if items}
+                waiting += [] if isinstance(item, str) else self.specs.names(item, signature_only=item in self.stops)
+        return seen
 
-    def named(self, module, name):
-        crate, file = module.split("/")
-        if (crate, file) not in self.specs.modules or name not in self.specs.modules[crate, file].items:
-            raise antt.Fault(f"{module} has no {name}, which is one of CALLS of tests/believe.py")
-        return self.specs.modules[crate, file].items[name]
+    def of_files(self, items):
+        """Each file with those of its declarations that are among some."""
+        files = {m: [i for i in m.items.values() if i in items] for m in self.specs.order}
+        return {m: found for m, found in files.items() if found}
 
-    def lines(self):
-        return sum(i.count() for items in self.files.values() for i in items)
+    def lines(self, comments=True):
+        return sum(i.count(comments) for items in self.files.values() for i in items)
 
-    def code(self):
-        return sum(i.count(comments=False) for items in self.files.values() for i in items)
+    def more_lines(self):
+        return sum(i.count() for items in self.closing.values() for i in items)
 
-    def read(self, files=None):
-        """The rows of what to read: file, of it, lines."""
+    def rows(self, files):
+        """The rows of a list: file, of it, lines."""
         rows = {}
-        for module, items in (files or self.files).items():
+        for module, items in files.items():
             rest = [i for i in module.items.values() if i not in items]
             of_it = listed(items) if len(items) < len(rest) else "all but " + listed(rest) if rest else "all"
             rows[str(module)] = (of_it, str(sum(i.count() for i in items)))
@@ -104,7 +117,7 @@ class Page:
     def __init__(self, text):
         self.text = text
         self.lists = {}
-        for name in ("read", "c", "inner", "examples"):
+        for name in ("read", "closing", "c", "inner", "examples"):
             rows = {}
             for row in self.rows(name):
                 file, *cells = [c.strip() for c in row.split("|")[1:-1]]
@@ -137,16 +150,15 @@ class Page:
 
 def written(page, closure):
     """The page with its lists as the definitions have them."""
-    rows = closure.read()
-    body = "| File | Of it | Lines | What it is |\n|---|---|---|---|\n"
-    for module in closure.files:
-        body += f"| {module} | {rows[str(module)][0]} | {rows[str(module)][1]} | {page.said('read', module)} |\n"
-    body += f"\nIn all {closure.lines():,} lines, {closure.code():,} without the comments.\n"
-    page = Page(page.with_block("read", body))
-    rows = closure.read(closure.for_c)
-    body = "| File | Of it | Lines | What it is |\n|---|---|---|---|\n"
-    body += "".join(f"| {m} | {rows[str(m)][0]} | {rows[str(m)][1]} | {page.said('c', m)} |\n" for m in closure.for_c)
-    page = Page(page.with_block("c", body))
+    ends = {
+        "read": f"\nIn all {closure.lines():,} lines, {closure.lines(comments=False):,} without the comments.\n",
+        "closing": f"\nIn all {closure.more_lines():,} lines more.\n",
+    }
+    for name, files in (("read", closure.files), ("closing", closure.closing), ("c", closure.for_c)):
+        rows = closure.rows(files)
+        body = "| File | Of it | Lines | What it is |\n|---|---|---|---|\n"
+        body += "".join(f"| {m} | {rows[str(m)][0]} | {rows[str(m)][1]} | {page.said(name, m)} |\n" for m in files)
+        page = Page(page.with_block(name, body + ends.get(name, "")))
     names = [f"`{c.module}.{c.name}`" for c in closure.calls]
     page = Page(page.with_block("calls", ", ".join(names) + "\n"))
     names = [f"`{i.module}.{i.name}` (`{field}`)" for i, field in closure.fixed.items()]
@@ -159,22 +171,30 @@ def written(page, closure):
     return page.text
 
 
+def differing(page, name, wanted):
+    """Where a list of the page has other rows than it should."""
+    found, listed = [], page.lists[name]
+    for file, (of_it, lines) in wanted.items():
+        if file not in listed:
+            found.append(f"{PAGE}: {file} is to be read ({of_it}; {lines} lines), and is not in the list '{name}'")
+        elif listed[file][:2] != [of_it, lines]:
+            said = "; ".join(listed[file][:2])
+            place = f"{PAGE}:{page.line(name, file)}"
+            found.append(f"{place}: of {file} are to be read: {of_it}; {lines} lines. The list '{name}' says: {said}")
+    for file in listed:
+        if file not in wanted:
+            found.append(f"{PAGE}:{page.line(name, file)}: nothing of {file} is to be read, and it is in the list '{name}'")
+    return found
+
+
 def faults(text, specs):
     """What is wrong with the page, a line each."""
     found = []
     closure, page = Closure(specs), Page(text)
-    if closure.code() > MOST:
-        found.append(f"{DEMANDS}: {closure.code():,} lines are to be believed, without the comments; more than {MOST:,}")
-    wanted, listed = closure.read(), page.lists["read"]
-    for file, (of_it, lines) in wanted.items():
-        if file not in listed:
-            found.append(f"{PAGE}: {file} is to be read ({of_it}; {lines} lines), and is not in the list")
-        elif listed[file][:2] != [of_it, lines]:
-            said = "; ".join(listed[file][:2])
-            found.append(f"{PAGE}:{page.line('read', file)}: of {file} are to be read: {of_it}; {lines} lines. The list says: {said}")
-    for file in listed:
-        if file not in wanted:
-            found.append(f"{PAGE}:{page.line('read', file)}: nothing of {file} is to be read, and it is in the list")
+    if closure.lines() >= MOST:
+        found.append(f"{DEMANDS}: {closure.lines():,} lines are to be believed; they have to be fewer than {MOST:,}")
+    for name, files in (("read", closure.files), ("closing", closure.closing)):
+        found += differing(page, name, closure.rows(files))
     outside = [str(m) for m in closure.outside]
     for file in outside:
         where = [name for name in ("inner", "examples") if file in page.lists[name]]
@@ -192,13 +212,15 @@ def faults(text, specs):
 def wrong(text, texts):
     """Pages and definitions that are wrong in one way: a label, the page, the definitions that differ, and a part of what is to be found."""
     closure, page = Closure(antt.Specs(texts)), Page(text)
-    read, inner, examples = ([f"{line}\n" for line in page.rows(name)] for name in ("read", "inner", "examples"))
+    read, closing, inner, examples = ([f"{line}\n" for line in page.rows(name)] for name in ("read", "closing", "inner", "examples"))
 
     # the page
-    yield "a file left out", text.replace(read[0], ""), {}, "is not in the list"
-    yield "another count", text.replace(read[0], re.sub(r"\| \d+ \|", "| 0 |", read[0])), {}, "The list says"
-    yield "a file that is not there", text.replace(read[0], read[0] + "| wire/No | all | 3 | no |\n"), {}, "nothing of wire/No"
-    yield "two files in the other order", text.replace(read[0] + read[1], read[1] + read[0]), {}, "another order"
+    for name, rows in (("read", read), ("closing", closing)):
+        yield f"a file left out of '{name}'", text.replace(rows[0], ""), {}, f"is not in the list '{name}'"
+        yield f"another count in '{name}'", text.replace(rows[0], re.sub(r"\| \d+ \|", "| 0 |", rows[0])), {}, f"The list '{name}' says"
+        yield f"no such file in '{name}'", text.replace(rows[0], rows[0] + "| wire/No | all | 3 | no |\n"), {}, "nothing of wire/No"
+        yield f"two files of '{name}' in the other order", text.replace(rows[0] + rows[1], rows[1] + rows[0]), {}, "another order"
+    yield "another sum", re.sub(r"In all [\d,]+ lines more", "In all 1 lines more", text), {}, "another order or form"
     yield "an inner file left out", text.replace(inner[0], ""), {}, "stands in 0"
     yield "an inner file that is an example too", text.replace(examples[0], examples[0] + inner[0]), {}, "stands in 2"
     whole = next(m for m in closure.files if m not in closure.outside)
@@ -206,14 +228,66 @@ def wrong(text, texts):
 
     # the definitions
     last = "\n".join(closure.files[whole][-1].lines)
-    yield "a definition that grew", text, {whole.path: whole.text.replace(last, last + "\n  -- one")}, f"of {whole} are to be read"
+    yield "a definition that grew", text, {whole.path: whole.text.replace(last, last + "\n   -- one")}, f"of {whole} are to be read"
     demands = texts[DEMANDS]
-    file, name = next((m, i.name) for m in closure.outside for i in m.items.values() if i not in closure.files.get(m, []) + closure.calls)
-    new = f"\nuse Rattle.{file.crate}.specs.{file.name}.{{{name} as more}}\npub record Demand0 : Type 0 where\n  pub new : more\n"
-    yield "a demand that names a definition more", text, {DEMANDS: demands + new}, f"{file} "
+    known = {i for files in (closure.files, closure.closing) for items in files.values() for i in items} | closure.stops
+    file, name = next((m, i.name) for m in closure.outside for i in m.items.values() if i not in known)
+    path, record = f"Rattle.{file.crate}.specs.{file.name}", "\npub record Demand0 : Type 0 where\n  pub new : "
+    for label, use, new in (
+        ("names a definition more", f".{{{name} as more}}", "more"),
+        ("names one right after a dot", f".{{{name} as more}}", "(λ x.more)"),
+        ("names one by the file", " as other", f"other.{name}"),
+        ("names one that is a variable too", f".{{{name} as more}}", "(more : ℕ) → more ≡ more"),
+    ):
+        yield f"a demand that {label}", text, {DEMANDS: f"{demands}\nuse {path}{use}\n{record}{new}\n"}, f"{file} "
+    new = f"\nuse {path}.{{{name} as more}}\n" + record.replace("Demand0", "Closing0") + "more\n"
+    yield "a closing record that names a definition more", text, {CLOSING: texts[CLOSING] + new}, f"{file} "
     yield "a field that determines a definition is gone", text, {DEMANDS: demands.replace("pub room-is :", "pub room :")}, "is to determine"
-    new = "\npub record Demand0 : Type 0 where\n" + "  pub new : ℕ\n" * MOST
-    yield "a demand that is too long", text, {DEMANDS: demands + new}, f"more than {MOST:,}"
+    for other in ("ℕ", "JobRoomIs"):
+        new = demands.replace("pub room-is : RoomIs", f"pub room-is : {other}")
+        yield f"{other} for a statement that determines a definition", text, {DEMANDS: new}, "Demand1.room-is does not determine table/Slots"
+    new = record + "ℕ\n" + "  -- more\n" * (MOST - closure.lines() - 2)
+    yield "demands that have too many comments", text, {DEMANDS: demands + new}, f"{MOST:,} lines are to be believed"
+    for new in ("abbrev more : ℕ", "pub more : ℕ", "pub codata More : Type 0", "module _ where", "pub use lib.ListN.{drop}"):
+        yield f"'{new}'", text, {DEMANDS: f"{demands}\n{new}\n"}, "of a kind that tests/antt.py does not know"
+    new = demands.replace("  pub room-is :", "  room-is :")
+    yield "a field that is not public", text, {DEMANDS: new}, "of a kind that tests/antt.py does not know"
+    yield "a `use` of proofs", text, {DEMANDS: demands.replace("use ", "use Rattle.table.proofs.Slots.{more}\nuse ", 1)}, "nor of specs"
+    yield "a name brought twice", text, {DEMANDS: f"use {path}.{{{name} as room}}\n{demands}"}, "two `use` lines bring room"
+    lib = "crates/guarantees/specs/Lib.antt"
+    yield "a declaration beside the files", text, {lib: texts[lib] + "abbrev pub more : ℕ\nmore = 0\n"}, "a line that is no 'pub mod'"
+
+
+def print_texts(closure):
+    """All that is to be read, whole."""
+    tree = guarantees.Tree(guarantees.read())
+    for title, files in (("", closure.files), ("of the closing records", closure.closing), ("for who calls from C", closure.for_c)):
+        if title:
+            print(f"\n-- ======== {title}")
+        for module, items in files.items():
+            print(f"\n-- ==== {module}\n")
+            print("\n\n".join("\n".join(i.lines) for i in items))
+    print("\n-- ======== the contracts of the calls, and what brings the definitions that they name")
+    for path, names in tree.contracts().items():
+        print(f"\n-- ==== {path}\n")
+        print("\n".join(tree.brings(path)))
+        print("\n".join(f"\n{tree.contract(name)}" for name in names))
+    print("\n-- ======== types that are declared in code\n")
+    print("\n".join(tree.declared(name) for name in closure.declared))
+
+
+def print_lists(closure):
+    """All that is to be read, by name."""
+    for title, files in (("", closure.files), ("\nof the closing records, beyond that\n", closure.closing)):
+        print(title, end="")
+        for module, items in files.items():
+            print(f"{module}: {sum(i.count() for i in items)} lines")
+            print("".join(f"    {i.name} {i.count()}\n" for i in items), end="")
+    print("\nthe calls, whose text nobody has to believe\n" + "\n".join(f"    {c}" for c in closure.calls))
+    print("\nwhat a field of the demands determines\n" + "\n".join(f"    {i}: {field}" for i, field in closure.fixed.items()))
+    print("\ntypes that are declared in code\n" + "\n".join(f"    {d}" for d in closure.declared))
+    count = f"{closure.lines():,} lines, {closure.lines(comments=False):,} without the comments"
+    print(f"\n{count}; {closure.more_lines():,} lines of the closing records")
 
 
 def main(arguments):
@@ -224,22 +298,9 @@ def main(arguments):
     if arguments == ["--write"]:
         (antt.ROOT / PAGE).write_text(written(Page(text), closure))
     elif arguments == ["--text"]:
-        for module, items in [*closure.files.items(), *closure.for_c.items()]:
-            print(f"\n-- ==== {module}\n")
-            print("\n\n".join("\n".join(i.lines) for i in items))
-        print("\n-- ==== the contracts of the calls\n")
-        tree = guarantees.Tree(guarantees.read())
-        print("\n".join(tree.source(name).rstrip("{ \n") for name in [*guarantees.PUBLIC, *tree.exported()[0]]))
-        print("\n-- ==== types that are declared in code\n")
-        print("\n".join(tree.declared(name) for name in closure.declared))
+        print_texts(closure)
     elif arguments == ["--list"]:
-        for module, items in closure.files.items():
-            print(f"{module}: {sum(i.count() for i in items)} lines")
-            print("".join(f"    {i.name} {i.count()}\n" for i in items), end="")
-        print("\nthe calls, whose text nobody has to believe\n" + "\n".join(f"    {c}" for c in closure.calls))
-        print("\nwhat a field of the demands determines\n" + "\n".join(f"    {i}: {field}" for i, field in closure.fixed.items()))
-        print("\ntypes that are declared in code\n" + "\n".join(f"    {d}" for d in closure.declared))
-        print(f"\n{closure.lines():,} lines, {closure.code():,} without the comments")
+        print_lists(closure)
     elif arguments:
         raise antt.Fault(f"not understood: {' '.join(arguments)}")
     else:
@@ -254,7 +315,7 @@ def main(arguments):
             if part not in found:
                 raise antt.Fault(f"{label} is not found: '{part}' is not in what is found: {found or 'nothing'}")
             tried += 1
-        count = f"{closure.lines():,} lines in {len(closure.files)} files, {closure.code():,} without the comments"
+        count = f"{closure.lines():,} lines in {len(closure.files)} files, {closure.lines(comments=False):,} without the comments"
         print(f"believe: {count}; {tried} wrong lists are found out")
 
 

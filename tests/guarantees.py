@@ -11,10 +11,11 @@ Each page is one table, with headings between groups of rows. What stands in `..
     Proof       crate/Module.name       a `pub name : ..` of crates/crate/proofs/Module.antt
     Edits       crate: label, label     files of crates/crate/must-fail
 
-It fails unless every reference is there; each statement has in its row a proof of that type, the statement itself or applied to a call,
-and each proof of a declared statement has that in its row; every must-fail edit stands in just one row; every field of those
-records, every statement that is proved, every function that is exported for C and every public call stands in some row; and none of these
-functions has a `requires`, or a contract whose definition gets the arguments in another order than the function.
+It fails unless every reference is there; each statement has in its row a proof of that type, the statement itself or applied to calls,
+with no hypothesis, and each proof of a declared statement has that in its row; every must-fail edit stands in just one row; every field
+of those records, every statement that is proved, every function that is exported for C and every public call stands in some row; none of
+these functions has a `requires`, and the contract of each is the equation that PUBLIC or FOR_C has, with definitions from where they are
+to be; and README.md's table of calls has the public ones.
 
 Then the same is asked of pages and sources that are wrong, each in one way; the test fails if one of them passes.
 """
@@ -28,15 +29,49 @@ import antt
 COLUMNS = ["Document 01", "Statement", "Definition", "Function", "Proof", "Edits"]
 # files whose records are statements: the three demands, and what closes them
 RECORDS = ["crates/guarantees/specs/Demands.antt", "crates/guarantees/specs/Closing.antt"]
-PUBLIC = [
-    "loader::load",
-    "engine::run",
-    "bundle::check",
-    "bundle::exports::name_part",
-    "bundle::exports::export_name",
-    "bundle::exports::export_index",
-    "listing::list",
+# what the contract of each public call says: LEFT are the lent tables at the exit and the answer, GIVEN the arguments, all in order
+PUBLIC = {
+    "loader::load": "loaded LEFT ≡ load GIVEN",
+    "engine::run": "ran LEFT ≡ run GIVEN",
+    "bundle::check": "LEFT ≡ refusal GIVEN",
+    "bundle::exports::name_part": "LEFT ≡ namePart GIVEN",
+    "bundle::exports::export_name": "now LEFT ≡ nameCall GIVEN",
+    "bundle::exports::export_index": "LEFT ≡ indexCall GIVEN",
+    "listing::list": "(r ≤ length (now (out .exit))) × (take r (now (out .exit)) ≡ listing GIVEN)"
+    " × (drop r (now (out .exit)) ≡ drop r (now (out .entry)))",
+}
+# the same of the functions that are exported for C
+FOR_C = {
+    "arboricx::arboricx_check": "LEFT ≡ refusal GIVEN",
+    "arboricx::arboricx_load": "left LEFT ≡ afterLoad (load GIVEN)",
+    "arboricx::arboricx_run": "left LEFT ≡ afterRun (run GIVEN)",
+    "arboricx::arboricx_export_index": "told LEFT ≡ afterIndex (indexCall GIVEN)",
+    "arboricx::arboricx_export_name": "LEFT ≡ partWords (namePart GIVEN)",
+    "arboricx::arboricx_sha256": "LEFT ≡ sha256 GIVEN",
+}
+# arguments that are written only: no definition gets them
+WRITTEN = ("answer", "digest", "out")
+# where the names of these contracts come from: a file of specs as crate/Module, or one of the kit's library
+SOURCES = [
+    *antt.CALLS.items(),
+    ("loader/Load", ["loaded"]),
+    ("engine/Run", ["ran"]),
+    ("listing/Listing", ["listing"]),
+    ("sha256_block/Fips180", ["sha256"]),
+    ("arboricx/Answers", ["partWords"]),
+    ("arboricx/Calls", ["left", "told", "afterLoad", "afterRun", "afterIndex"]),
+    ("mathlib.Core.Path", ["_≡_"]),
+    ("Prim.Native.Nat", ["_≤_"]),
+    ("lib.ListN", ["length", "take", "drop"]),
 ]
+WHERE = {name: source for source, names in SOURCES for name in names}
+# what a statement may be applied to where it is proved: the calls, and the bundle of the examples
+ARGUMENTS = [f"{module}.{name}" for module, names in antt.CALLS.items() for name in names]
+ARGUMENTS += ["soundness/ExportCalls.index", "bundle_example/Leaf.leafBundle"]
+# the start of an item of a source file
+ITEM = re.compile(r'^( *)(?:pub(?:\(crate\))? )?(?:extern "C" )?(fn|const|struct|enum|impl|mod|use|ghost)\b *(\w*)|^ *#\[', re.M)
+CONTRACT = re.compile(r"pub [^(]*\(([^()]*)\)\s*(?:-> ([^\n]*?)\s*)?ensures \{ λ r\. ⌜(.*?)⌝ \}\s*\{\n", re.S)
+PATH = re.compile(r"\b(?:crates|docs|tests|include|fixtures|host|bench)/[\w./-]*\w")
 
 
 def read():
@@ -46,65 +81,70 @@ def read():
         for path in (antt.ROOT / top).rglob("*"):
             asked = path.suffix in (".antt", ".rt", ".edit") or (top == "docs" and path.suffix == ".md")
             texts[str(path.relative_to(antt.ROOT))] = path.read_text() if asked and path.is_file() else ""
-    return texts
+    return texts | {"README.md": (antt.ROOT / "README.md").read_text()}
 
 
 @functools.cache
 def proofs_of(path, text):
-    """Each `pub name : type` of a file of proofs: the type's words, as far as the next line at the same depth."""
-    found = {}
-    for depth, name, kind in re.findall(r"^( *)pub (\S+) :((?:.*\n)(?:\1 +.*\n)*)", text, re.M):
-        found[name] = re.sub(r"\s*--.*", "", kind).split()
-    return found, antt.uses(path, text)
+    """Of a file of proofs: the names of all `pub name : type`, the types of those at the start of a line, in words, and what it uses.
+
+    One that stands deeper is in a module, and may have its hypotheses."""
+    names = set(re.findall(r"^ *pub (\S+) :", text, re.M))
+    types = re.findall(r"^pub (\S+) :((?:.*\n)(?: +.*\n)*)", text, re.M)
+    return names, {name: re.sub(r"\s*--.*", "", kind).split() for name, kind in types}, antt.uses(path, text)
 
 
 @functools.cache
-def fields_of(path, text):
-    """Each field of the records of a file: its name with the record's, and its file and its type."""
-    fields = {}
-    for record, body in re.findall(r"^pub record (\w+) : Type 0 where\n((?:  .*\n|\n)*)", text, re.M):
-        for name, kind in re.findall(r"^  pub (\S+) :((?:.*\n)(?:   +.*\n)*)", body, re.M):
-            fields[f"{record}.{name}"] = path, kind.split()
-    return fields
+def items_of(text):
+    """Each item of a source file by its name, a method after its type: where it starts, and its text up to the next item, no comments."""
+    text = re.sub(r"//[^\n]*", lambda comment: " " * len(comment[0]), text)
+    starts = list(ITEM.finditer(text))
+    found, owner = {}, ""
+    for start, end in zip(starts, [*(s.start() for s in starts[1:]), len(text)]):
+        depth, kind, name = start.groups()
+        owner = name if kind == "impl" else owner
+        if kind in ("fn", "const", "struct", "enum"):
+            found.setdefault(f"{owner}::{name}" if depth else name, (start.start(), text[start.start() : end]))
+    return found
 
 
 class Tree:
     def __init__(self, texts):
         self.texts = texts
         self.specs = antt.Specs({p: t for p, t in texts.items() if re.match(r"crates/\w+/specs/.*\.antt", p)})
-        self.fields = {f: found for path in RECORDS for f, found in fields_of(path, texts.get(path, "")).items()}
+        records = [i for m in self.specs.order if m.path in RECORDS for i in m.items.values() if i.kind == "pub record"]
+        self.fields = {f"{record.name}.{name}": (record, kind.split()) for record in records for name, kind in record.inner.items()}
         self.edits = {tuple(re.fullmatch(r"crates/(\w+)/must-fail/(.+)\.edit", p).groups()) for p in texts if p.endswith(".edit")}
         self.proved = {}
         for path, text in texts.items():
             if where := re.fullmatch(r"crates/(\w+)/proofs/(.+)\.antt", path):
-                found, used = proofs_of(path, text)
-                for name, kind in found.items():
+                _, types, used = proofs_of(path, text)
+                for name, kind in types.items():
                     if statement := self.statement(kind, *used):
                         self.proved[f"{where[1]}/{where[2].replace('/', '.')}.{name}"] = statement
 
     def statement(self, kind, brought, aliases):
-        """The declaration that a type is, itself or applied; None where it is a type of its own."""
-        if any(word in kind for word in ("→", "×", "≡", "↔", "⊎")) or not kind:
-            return None
-        alias, _, name = kind[0].rpartition(".")
-        crate, module, name = (*aliases[alias], name) if alias in aliases else brought.get(kind[0], (None, None, None))
-        item = (crate, module) in self.specs.modules and self.specs.modules[crate, module].items.get(name)
-        return f"{crate}/{module}.{name}" if item else None
-
-    def field_module(self, field):
-        return next(m for m in self.specs.modules.values() if m.path == self.fields[field][0])
+        """The declaration that a type is, with the calls that it is applied to; None where it is another type, like one with an arrow."""
+        names = []
+        for word in kind:
+            alias, _, name = word.rpartition(".")
+            crate, module, name = (*aliases[alias], name) if alias in aliases else brought.get(word, (None, None, None))
+            if (crate, module) not in self.specs.modules or name not in self.specs.modules[crate, module].items:
+                return None
+            names.append(f"{crate}/{module}.{name}")
+        return " ".join(names) if names and all(name in ARGUMENTS for name in names[1:]) else None
 
     def field_statement(self, field):
-        module = self.field_module(field)
-        own = {name: (module.crate, module.name, name) for name in module.items}
-        return self.statement(self.fields[field][1], module.brought | own, module.aliases)
+        record, kind = self.fields[field]
+        own = {name: (record.module.crate, record.module.name, name) for name in record.module.items}
+        return self.statement(kind, record.module.brought | own, record.module.aliases)
 
     def field_record(self, field):
-        return f"{self.field_module(field)}.{field.split('.')[0]}"
+        return str(self.fields[field][0])
 
     def field_place(self, field):
         record, name = field.split(".")
-        path = self.fields[field][0]
+        path = self.fields[field][0].module.path
         text = self.texts[path]
         return f"{path}:{text[: text.index(f'  pub {name} :', text.index(f'pub record {record} '))].count(chr(10)) + 1}"
 
@@ -138,28 +178,44 @@ class Tree:
     def function(self, name):
         if "/" in name:
             return None if name.rstrip("/") in self.texts else f"there is no {name}"
-        found = self.source(name)
+        found = self.item(name)
         if not found:
             return "there is no such function, method, constant or type"
-        return "the function has no contract" if found.startswith("fn ") and "ensures" not in found else None
+        return "the function has no contract" if re.search(r"\bfn\b", found[2]) and "ensures" not in self.contract(name) else None
+
+    def item(self, name):
+        """The file of a function, a constant or a type, the line there, and its text; None where it is not there."""
+        crate, *path = name.split("::") if "::" in name else [name, name]
+        for cut in range(len(path) - 1, -1, -1):
+            files = ["lib", "main"] if cut == 0 else ["/".join(path[:cut]), "/".join(path[:cut]) + "/mod"]
+            for file in [f"crates/{crate}/src/{f}.rt" for f in files]:
+                if found := items_of(self.texts.get(file, "")).get("::".join(path[cut:])):
+                    return file, self.texts[file][: found[0]].count("\n") + 1, found[1]
+        return None
 
     def place(self, name):
-        """The file and the line of a function."""
-        return next((f"{p}:{t[: t.index(self.source(name))].count(chr(10)) + 1}" for p, t in self.texts.items()
-                     if p.startswith(f"crates/{name.split('::')[0]}/src/") and self.source(name) and self.source(name) in t), "crates")
+        found = self.item(name)
+        return f"{found[0]}:{found[1]}" if found else "tests/guarantees.py"
 
-    def source(self, name):
-        """The text from a function's name up to its body, and of another item its line; None where it is not there."""
-        crate, *path, last = name.split("::") if "::" in name else [name, name]
-        for cut in range(len(path), -1, -1):
-            files = ["lib.rt", "main.rt"] if cut == 0 else ["/".join(path[:cut]) + ".rt", "/".join(path[:cut]) + "/mod.rt"]
-            for file in files:
-                text = self.texts.get(f"crates/{crate}/src/{file}", "")
-                if path[cut:]:
-                    text = "".join(re.findall(rf"^impl {path[cut]}\b.*?^}}", text, re.M | re.S)) if len(path[cut:]) == 1 else ""
-                if found := re.search(rf"\bfn {last}\b.*?\n\s*\{{\n|\b(?:const|struct|enum) {last}\b.*", text, re.S):
-                    return found[0]
-        return None
+    def contract(self, name):
+        """A function's text up to its body."""
+        return re.split(r"\n *\{\n", self.item(name)[2])[0]
+
+    def contracts(self):
+        """The public calls and the functions for C, by their files."""
+        files = {}
+        for name in [*PUBLIC, *FOR_C]:
+            files.setdefault(self.item(name)[0], []).append(name)
+        return files
+
+    def bring(self, path, word):
+        """The `ghost use` lines of a source file that have a word."""
+        return [line for line in re.findall(r"ghost use [^;]*;", self.texts[path]) if word in re.split(r"[\s{},;]+", line)]
+
+    def brings(self, path):
+        """Those that bring the names of its public contracts."""
+        words = [word for name in self.contracts()[path] for word in heads(name)]
+        return list(dict.fromkeys(line for word in words for line in self.bring(path, word)))
 
     def declared(self, name):
         """The text of a struct or an enum of the source."""
@@ -171,24 +227,78 @@ class Tree:
         """The functions that are exported for C, as crate::module::name, and their files."""
         found, wrong = {}, []
         for path, text in self.texts.items():
-            if where := re.fullmatch(r"crates/arboricx/src/(.+)\.rt", path):
+            if where := re.fullmatch(r"crates/(\w+)/src/(.+)\.rt", path):
                 names = re.findall(r'#\[no_mangle\]\s*pub extern "C" fn (\w+)', text)
-                if len(names) != text.count("#[no_mangle]"):
-                    wrong.append(f"{path}: {text.count('#[no_mangle]')} functions are exported, {len(names)} could be read")
-                module = "" if where[1] == "lib" else where[1].replace("/", "::") + "::"
-                found |= {f"arboricx::{module}{name}": path for name in names}
+                if len(names) != text.count("no_mangle"):
+                    wrong.append(f"{path}: {text.count('no_mangle')} functions are exported, {len(names)} could be read")
+                module = "" if where[2] in ("lib", "main") else where[2].replace("/", "::") + "::"
+                found |= {f"{where[1]}::{module}{name}": path for name in names}
         return found, wrong
 
 
-def out_of_order(contract):
-    """Whether a side of an equation of a contract names the function's arguments in another order than the function does."""
-    signature, _, ensures = contract.partition("ensures")
-    arguments = re.findall(r"(\w+): ", signature[signature.index("(") :])
-    for side in re.split("[≡×]", ensures):
-        named = [arguments.index(word) for word in re.findall(r"\w+", side) if word in arguments]
-        if named != sorted(set(named)):
-            return True
-    return False
+def heads(name):
+    """The names of a public contract that a `ghost use` has to bring."""
+    words = re.findall(r"[^\s()]+", (PUBLIC | FOR_C)[name])
+    return [known for word in words for known in (word, f"_{word}_") if known in WHERE]
+
+
+def equation(shape, parameters, returned):
+    """What a contract of that shape says of these parameters, each a name and a type."""
+    lent = [x for x, kind in parameters if kind.startswith("&mut")]
+    left = [f"(now ({x} .exit))" for x in lent] + ["r"] if returned else [f"now ({x} .exit)" for x in lent]
+    given = [f"(now ({x} .entry))" if kind.startswith("&") else x for x, kind in parameters if x not in WRITTEN or x not in lent]
+    return shape.replace("LEFT", " ".join(left)).replace("GIVEN", " ".join(given))
+
+
+def public_faults(tree, name):
+    """What is wrong with a call that anyone may make."""
+    if not tree.item(name):
+        return ["there is no such function"]
+    if name not in PUBLIC | FOR_C:
+        return ["tests/guarantees.py does not know what its contract is to say"]
+    path, _, source = tree.item(name)
+    found = ["a call that anyone may make has a 'requires'"] if re.search(r"\brequires\b", source) else []
+    contract = CONTRACT.match(source)
+    if not contract:
+        return found + ["its contract is not understood"]
+    parameters = re.findall(r"(\w+):\s*([^,]*[^,\s])", contract[1])
+    said, wanted = " ".join(contract[3].split()), equation((PUBLIC | FOR_C)[name], parameters, contract[2])
+    if said != wanted or any(f"({x} .exit)" not in said for x, kind in parameters if kind.startswith("&mut")):
+        found.append(f"its contract does not say '{wanted}'")
+    for word in heads(name):
+        crate, slash, module = WHERE[word].partition("/")
+        wanted = rf"ghost use Rattle.{crate}(·specs)?\.specs\.{module}" if slash else f"ghost use {crate}"
+        lines = tree.bring(path, word)
+        where, _, names = "".join(lines).rstrip("};").partition(".{")
+        named = [each.strip() for each in names.split(",") if word in each.split()]
+        if len(lines) != 1 or not re.fullmatch(wanted, where) or named != [word]:
+            found.append(f"'{word}' of its contract is not brought from {WHERE[word]} under its own name")
+    return found
+
+
+def record_faults(tree):
+    """What is wrong with the records that are statements: each has no parameters, and each demand is one."""
+    found = []
+    for module in tree.specs.order:
+        for item in module.items.values() if module.path in RECORDS else []:
+            place = f"{module.path}:{item.start}: {item.name}"
+            if item.kind == "pub record" and item.head.strip() != f"pub record {item.name} : Type 0 where":
+                found.append(f"{place}: a record that is no statement of the form 'pub record {item.name} : Type 0 where'")
+            if item.kind != "pub record" and item.name.startswith("Demand"):
+                found.append(f"{place}: a demand that is no record")
+    return found
+
+
+def readme_faults(text):
+    """The calls of README.md's table are the public ones, but for that of the program. One with no path is where the one before it is."""
+    calls, where = [], ""
+    for row in re.findall(r"^\| (`.*?) \|", text.partition("\n## The calls\n")[2].partition("\n## ")[0], re.M):
+        for path, name in re.findall(r"`((?:\w+::)*)(\w+)\(", row):
+            where = path or where
+            calls.append(where + name)
+    public = [name for name in PUBLIC if name != "listing::list"]
+    found = [f"README.md: {call}: is called public, and is none of PUBLIC of tests/guarantees.py" for call in calls if call not in public]
+    return found + [f"README.md: {name}: a public call that the table has not" for name in public if name not in calls]
 
 
 class Row:
@@ -232,8 +342,8 @@ def faults(texts):
         more, wrong = rows_of(page, texts[page])
         rows, found = rows + more, found + wrong
         for number, line in enumerate(texts[page].split("\n"), 1):
-            paths = [] if line.startswith("|") else re.findall(r"\b(?:crates|docs|tests|include|fixtures|host|bench)/[\w./-]*\w", line)
-            found += [f"{page}:{number}: there is no {path}" for path in paths if path not in texts]
+            words = re.sub(r"`[^`]*`", "", line) if line.startswith("|") else line
+            found += [f"{page}:{number}: there is no {path}" for path in PATH.findall(words) if path not in texts]
     standing = {column: {} for column in COLUMNS}
     look = {"Statement": tree.declaration, "Definition": tree.declaration, "Function": tree.function, "Proof": tree.proof}
     for row in rows:
@@ -257,23 +367,19 @@ def faults(texts):
         found.append(f"crates/{crate}/must-fail/{label}.edit: stands in no row")
     found += [f"{tree.field_place(field)}: {field}: stands in no row" for field in tree.fields if field not in standing["Statement"]]
     for proof, statement in tree.proved.items():
+        statement = statement.split()[0]
         crate, module, name = re.fullmatch(r"(\w+)/(.+)\.(\S+)", statement).groups()
         item = tree.specs.modules[crate, module].items[name]
         if re.search(r" : Type 0$", item.code.split("\n")[0]) and item.kind == "abbrev pub" and statement not in standing["Statement"]:
             found.append(f"crates/{crate}/specs/{module.replace('.', '/')}.antt:{item.start}: {statement} is proved by {proof} and stands in no row")
     functions, wrong = tree.exported()
     found += wrong
-    for name in [*functions, *PUBLIC]:
-        contract = tree.source(name)
-        if contract is None:
-            found.append(f"{functions.get(name, 'tests/guarantees.py')}: {name}: there is no such function")
-        elif re.search(r"\brequires\b", contract):
-            found.append(f"{tree.place(name)}: {name}: a call that anyone may make has a 'requires'")
-        elif out_of_order(contract):
-            found.append(f"{tree.place(name)}: {name}: its contract names the arguments in another order")
+    for name in PUBLIC | FOR_C | functions:
+        found += [f"{tree.place(name)}: {name}: {wrong}" for wrong in public_faults(tree, name)]
         if name not in standing["Function"]:
             found.append(f"{tree.place(name)}: {name}: stands in no row")
-    return found
+    found += [f"{tree.place(name)}: {name}: is not exported for C" for name in FOR_C if name not in functions]
+    return found + record_faults(tree) + readme_faults(texts["README.md"])
 
 
 def joined(tree, row):
@@ -286,12 +392,12 @@ def joined(tree, row):
             record = tree.field_record(statement)
             if record not in proofs and tree.field_statement(statement) not in proofs:
                 found.append(f"{row.place}: {statement}: no proof of this row is one of {tree.field_statement(statement) or record}")
-        elif not tree.declaration(statement) and statement not in proofs:
+        elif not tree.declaration(statement) and statement not in [proved.split()[0] for proved in proofs]:
             found.append(f"{row.place}: {statement}: no proof of this row has this type")
-    for statement, proof in proofs.items():
-        of_field = any(statement in (tree.field_record(f), tree.field_statement(f)) for f in fields)
-        if statement not in row.names["Statement"] + row.names["Definition"] and not of_field:
-            found.append(f"{row.place}: {proof}: proves {statement}, which does not stand in this row")
+    for proved, proof in proofs.items():
+        of_field = any(proved in (tree.field_record(f), tree.field_statement(f)) for f in fields)
+        if proved.split()[0] not in row.names["Statement"] + row.names["Definition"] and not of_field:
+            found.append(f"{row.place}: {proof}: proves {proved}, which does not stand in this row")
     return found
 
 
@@ -323,36 +429,125 @@ def wrong(texts):
     twice = in_row(other, f"`{other.names['Edits'][0]}`", f"`{other.names['Edits'][0]}`, `{crate}: {label}`")
     yield "an edit in two rows", twice, f"{crate}: {label}: stands in {row.place} too"
     yield "a path that is not there", {page: texts[page] + "\nSee docs/NOWHERE.md.\n"}, "there is no docs/NOWHERE.md"
-    for field in (next(f for f in tree.fields if tree.fields[f][0] == path) for path in RECORDS):
+    yield "one in a row", in_row(row, "| ", "| docs/NOWHERE.md "), f"{row.place}: there is no docs/NOWHERE.md"
+    for field in (next(f for f in tree.fields if tree.fields[f][0].module.path == path) for path in RECORDS):
         yield f"{field} left out", {p: texts[p].replace(f"`{field}`", "") for p in pages(texts)}, f"{field}: stands in no row"
 
     # what it is about
     yield "a new edit", {f"crates/{crate}/must-fail/new.edit": ""}, f"crates/{crate}/must-fail/new.edit: stands in no row"
+    yield from wrong_statements(texts, tree, rows)
+    yield from wrong_calls(texts, tree)
+    new = texts["README.md"].replace("| `bundle::check(file)` |", "| |")
+    yield "a public call left out of README.md", {"README.md": new}, "bundle::check: a public call that the table has not"
+    new = texts["README.md"].replace("`bundle::check(file)`", "`bundle::check(file)`, `check_names(file)`")
+    yield "a call more in README.md", {"README.md": new}, "bundle::check_names: is called public"
+
+
+def wrong_statements(texts, tree, rows):
+    """Statements and proofs that are wrong in one way."""
     for path in RECORDS:
         record = re.search(r"^pub record (\w+) : Type 0 where\n", texts[path], re.M)
-        yield f"a new field of {record[1]}", {path: texts[path].replace(record[0], record[0] + "  pub new : ℕ\n")}, f"{record[1]}.new: stands in no row"
-    proof, statement = next((p, s) for p, s in tree.proved.items() for r in rows if p in r.names["Proof"] and s in r.names["Statement"])
-    crate, module, name = re.fullmatch(r"(\w+)/(.+)\.(\S+)", proof).groups()
-    path = f"crates/{crate}/proofs/{module.replace('.', '/')}.antt"
-    kind = " ".join(proofs_of(path, texts[path])[0][name])
-    yield "a proof of another type", {path: texts[path].replace(f"pub {name} : {kind}", f"pub {name} : {kind} → ⊥")}, f"{statement}: no proof"
+        new = texts[path].replace(record[0], record[0] + "  pub new : ℕ\n")
+        yield f"a new field of {record[1]}", {path: new}, f"{record[1]}.new: stands in no row"
+        new = texts[path].replace(record[0], record[0].replace(" :", " (h : ⊥) :"))
+        yield f"{record[1]} with a parameter", {path: new}, f"{record[1]}: a record that is no statement"
+    new = "\nabbrev pub Demand4 : Type 0\nDemand4 = ℕ\n"
+    yield "a demand that is no record", {RECORDS[0]: texts[RECORDS[0]] + new}, "Demand4: a demand that is no record"
+
+    # a proof of a statement, one of a statement that is applied to a call, and one of a field that is
+    proved = [(row, proof, tree.proved[proof]) for row in rows for proof in row.names["Proof"] if proof in tree.proved]
+    fields = {tree.field_statement(field): field for field in tree.fields}
+    plain = next((row, proof, says) for row, proof, says in proved if says in row.names["Statement"])
+    applied = next((row, proof, says.split()[0]) for row, proof, says in proved if " " in says and says.split()[0] in row.names["Statement"])
+    of_field = next((row, proof, fields[says]) for row, proof, says in proved if " " in says and fields.get(says) in row.names["Statement"])
+    for row, proof, says in (plain, applied, of_field):
+        path, name, kind = proof_of(texts, proof)
+        line, part = f"pub {name} : {kind}\n", f"{row.place}: {says}: no proof of this row"
+        for label, new in (
+            ("that asks for something", f"pub {name} : ⊥ → {kind}\n"),
+            ("that asks for something, in other signs", f"pub {name} : ⊥ -> {kind}\n"),
+            ("in a module with a hypothesis", f"module _ (h : ⊥) where\n  pub {name} : {kind}\n"),
+            ("of something else", f"pub {name} : {kind}′\n"),
+        ):
+            yield f"a proof {label}, for {says}", {path: texts[path].replace(line, new)}, part
+    path, name, kind = proof_of(texts, of_field[1])
+    new = texts[path].replace(f"pub {name} : {kind}\n", f"pub {name} : {kind.rpartition(' ')[0]} another\n")
+    use = "use Rattle.engine.specs.Run.{run as another}\n"
+    yield "a field's proof, of another call", {path: use + new}, f"{of_field[0].place}: {of_field[2]}: no proof of this row"
+
+    path, name, kind = proof_of(texts, plain[1])
     yield "a proof that is gone", {path: texts[path].replace(f"pub {name} :", f"{name} :")}, f"{path} has no 'pub {name} :'"
-    crate, module, _ = re.fullmatch(r"(\w+)/(.+)\.(\S+)", statement).groups()
+    crate, module, _ = re.fullmatch(r"(\w+)/(.+)\.(\S+)", plain[2]).groups()
     specs = f"crates/{crate}/specs/{module.replace('.', '/')}.antt"
     yield "a statement that no row has", {
         specs: texts[specs] + "\nabbrev pub New : Type 0\nNew = ℕ\n",
         path: texts[path] + f"\nuse Rattle.{crate}.specs.{module}.{{New}}\npub new : New\nnew = 0\n",
     }, f"{crate}/{module}.New is proved by"
-    for name in (next(iter(tree.exported()[0])), *PUBLIC):
-        path, contract = tree.place(name).split(":")[0], tree.source(name)
-        asks = contract.replace("ensures", "requires { ⌜ 0 ≡ 0 ⌝ }\n    ensures", 1)
-        yield f"a 'requires' on {name}", {path: texts[path].replace(contract, asks)}, f"{name}: a call that anyone may make has a 'requires'"
-    for name, old, new in (("arboricx::arboricx_run", "base f x", "base x f"), ("engine::run", "(jobs .exit)", "(words .exit)")):
-        path, contract = tree.place(name).split(":")[0], tree.source(name)
-        yield f"arguments of {name} swapped", {path: texts[path].replace(contract, contract.replace(old, new, 1))}, f"{name}: its contract names"
-    source = "crates/arboricx/src/lib.rt"
-    call = '\n#[no_mangle]\npub extern "C" fn arboricx_new()\n    ensures { }\n{\n}\n'
-    yield "a call for C that no row has", {source: texts[source] + call}, "arboricx::arboricx_new: stands in no row"
+
+
+def proof_of(texts, proof):
+    """The file of a proof, its name there, and its type."""
+    crate, module, name = re.fullmatch(r"(\w+)/(.+)\.(\S+)", proof).groups()
+    path = f"crates/{crate}/proofs/{module.replace('.', '/')}.antt"
+    return path, name, " ".join(proofs_of(path, texts[path])[1][name])
+
+
+def wrong_calls(texts, tree):
+    """Public calls that are wrong in one way."""
+
+    def other(name, old, new):
+        path, contract = tree.item(name)[0], tree.contract(name)
+        if old not in contract:
+            raise antt.Fault(f"tests/guarantees.py: {name}: its contract has no '{old}'")
+        return {path: texts[path].replace(contract, contract.replace(old, new, 1))}
+
+    asks = "requires { ⌜ 0 ≡ 0 ⌝ }"
+    for name in (next(iter(FOR_C)), *PUBLIC):
+        part = f"{name}: a call that anyone may make has a 'requires'"
+        yield f"a 'requires' on {name}", other(name, "ensures", f"{asks}\n    ensures"), part
+        yield f"one after the 'ensures' of {name}", other(name, "⌝ }", f"⌝ }}\n    {asks}"), part
+        yield f"one at the start of a line, of {name}", other(name, "⌝ }", f"⌝\n}}\n{asks}"), part
+    for name, old, new in (
+        ("arboricx::arboricx_run", "base f x", "base x f"),
+        ("arboricx::arboricx_run", "(run ", "(runTail "),
+        ("arboricx::arboricx_load", "(answer .exit)", "(answer .entry)"),
+        ("arboricx::arboricx_load", "exports: &mut", "exports: &"),
+        ("arboricx::arboricx_export_index", "(now (file .entry)) (now (name .entry))", "(now (name .entry)) (now (file .entry))"),
+        ("engine::run", "(jobs .exit)", "(words .exit)"),
+        ("engine::run", "used fuel", "used 0"),
+        ("engine::run", "used fuel", "used (fuel - 1)"),
+        ("engine::run", "f x used", "f f used"),
+        ("engine::run", "⌜ ran", "⌜ 0 ≡ 1 → ran"),
+        ("loader::load", " base (", " (pos 0) ("),
+        ("loader::load", "(words .exit)", "(words .entry)"),
+        ("loader::load", "(exports .entry)", "(exports .exit)"),
+        ("loader::load", "file: &[u8]", "file: &[u8], more: u32"),
+        ("bundle::check", "refusal", "nameRefusal"),
+        ("bundle::exports::name_part", " index ⌝", " 0 ⌝"),
+        ("listing::list", "drop r (now (out .exit))", "drop r (now (out .entry))"),
+        ("listing::list", "(input .entry)", "(out .entry)"),
+    ):
+        yield f"'{new}' in the contract of {name}", other(name, old, new), f"{name}: its contract does not say"
+    yield "a contract of another form", other("engine::run", "λ r.", "λ s."), "engine::run: its contract is not understood"
+    for name, old, new in (
+        ("loader::load", "accept, load}", "accept as load}"),
+        ("loader::load", "accept, load}", "accept, load as other}"),
+        ("loader::load", ".{recordsIn", ".{load as other, recordsIn"),
+        ("engine::run", "specs.Run.{ran", "specs.Step.{ran"),
+        ("bundle::check", "Path.{_≡_}", "Path.{_≤_ as _≡_}"),
+        ("listing::list", "{length, take, drop}", "{length, drop as take, drop}"),
+        ("arboricx::arboricx_sha256", "ghost use Rattle.sha256_block", "ghost use Rattle.sha256"),
+        ("arboricx::arboricx_load", "ghost use Rattle.loader", "ghost use Rattle.engine.specs.Run.{run as load};\nghost use Rattle.loader"),
+    ):
+        path = tree.item(name)[0]
+        yield f"'{new}' in {path}", {path: texts[path].replace(old, new, 1)}, f"{name}: '"
+    for path in ("crates/arboricx/src/lib.rt", "crates/engine/src/fuel.rt"):
+        new = '\n#[no_mangle]\npub extern "C" fn arboricx_new()\n    ensures { }\n{\n}\n'
+        yield f"a call for C of {path} that no row has", {path: texts[path] + new}, "::arboricx_new: stands in no row"
+        yield f"a call for C of {path} that is not known", {path: texts[path] + new}, "::arboricx_new: tests/guarantees.py does not know"
+    path = "crates/arboricx/src/lib.rt"
+    new = texts[path].replace("#[no_mangle]\n", "", 1)
+    yield "a call that is not exported", {path: new}, "arboricx::arboricx_check: is not exported for C"
 
 
 def main():
