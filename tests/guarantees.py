@@ -65,9 +65,9 @@ SOURCES = [
     ("lib.ListN", ["length", "take", "drop"]),
 ]
 WHERE = {name: source for source, names in SOURCES for name in names}
-# what a statement may be applied to where it is proved: the calls, and the bundle of the examples
+# what a statement may be applied to where it is proved: the calls
 ARGUMENTS = [f"{module}.{name}" for module, names in antt.CALLS.items() for name in names]
-ARGUMENTS += ["soundness/ExportCalls.index", "bundle_example/Leaf.leafBundle"]
+ARGUMENTS += ["soundness/ExportCalls.index"]
 # the start of an item of a source file
 ITEM = re.compile(r'^( *)(?:pub(?:\(crate\))? )?(?:extern "C" )?(fn|const|struct|enum|impl|mod|use|ghost)\b *(\w*)|^ *#\[', re.M)
 CONTRACT = re.compile(r"pub [^(]*\(([^()]*)\)\s*(?:-> ([^\n]*?)\s*)?ensures \{ λ r\. ⌜(.*?)⌝ \}\s*\{\n", re.S)
