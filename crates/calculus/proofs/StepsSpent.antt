@@ -20,10 +20,24 @@ module _ (why : Stop) (s : State) where
   not-ended : (t : Tree) → halted why s .ending ≡ ended t → ⊥
   not-ended t q = let z : _≡_ {A = ℕ} 0 1 = cc in omega arith
 
-  spent-at-once : (fuel : ℕ) (with : ℕ → Outcome) → (why ≡ no-fuel → fuel ≡ 0) → (RunsOut (halted why s) → why ≡ no-fuel) →
+  for-want : RunsOut (halted why s) → why ≡ no-fuel
+  for-want (f, x, js, q) = cc
+
+  spent-at-once : (fuel : ℕ) (with : ℕ → Outcome) → (why ≡ no-fuel → fuel ≡ 0) →
       ((RunsOut (halted why s) → ⊥) → with 1 ≡ halted why s) → Spent fuel with (halted why s)
-  spent-at-once fuel with none same one =
-      (omega arith, λ out. (let e = none (same out) in omega arith), λ n l. absurd (omega arith), λ t q. absurd (not-ended t q), one)
+  spent-at-once fuel with none one = (
+    omega arith,
+    λ out. (let e = none (for-want out) in omega arith),
+    λ n l. absurd (omega arith),
+    λ t q. absurd (not-ended t q),
+    one,
+  )
+
+slot-other : no-slot ≡ no-fuel → ⊥
+slot-other q = let z : _≡_ {A = ℕ} 0 1 = cc in omega arith
+
+place-other : no-place ≡ no-fuel → ⊥
+place-other q = let z : _≡_ {A = ℕ} 0 1 = cc in omega arith
 
 module _ (free places : ℕ) (s : State) where
   abbrev with : ℕ → Outcome
@@ -36,7 +50,7 @@ module _ (free places : ℕ) (s : State) where
 
   no-fuel-spent : Spent 0 with (with 0)
   unfolding run
-  no-fuel-spent = spent-at-once no-fuel s 0 with (λ _. refl) (λ _. refl) (λ never. absurd (never at-once))
+  no-fuel-spent = spent-at-once no-fuel s 0 with (λ _. refl) (λ never. absurd (never at-once))
 
   module _ (fuel : ℕ) (later : (k : ℕ) (s′ : State) → Spent fuel (λ n. run n k places s′) (run fuel k places s′)) where
     -- by what its first step comes to
@@ -64,20 +78,8 @@ module _ (free places : ℕ) (s : State) where
         fewer zero l = at-once
         fewer (suc n) l = absurd (omega arith)
     by-turn (stop no-fuel) h e = absurd h
-    by-turn (stop no-slot) h e = spent-at-once no-slot s (suc fuel) with other (λ out. same out) (λ _. rw e refl)
-      where
-        other : no-slot ≡ no-fuel → suc fuel ≡ 0
-        other q = let z : _≡_ {A = ℕ} 0 1 = cc in absurd (omega arith)
-
-        same : RunsOut (halted no-slot s) → no-slot ≡ no-fuel
-        same (f, x, js, q) = cc
-    by-turn (stop no-place) h e = spent-at-once no-place s (suc fuel) with other (λ out. same out) (λ _. rw e refl)
-      where
-        other : no-place ≡ no-fuel → suc fuel ≡ 0
-        other q = let z : _≡_ {A = ℕ} 0 1 = cc in absurd (omega arith)
-
-        same : RunsOut (halted no-place s) → no-place ≡ no-fuel
-        same (f, x, js, q) = cc
+    by-turn (stop no-slot) h e = spent-at-once no-slot s (suc fuel) with (λ q. absurd (slot-other q)) (λ _. rw e refl)
+    by-turn (stop no-place) h e = spent-at-once no-place s (suc fuel) with (λ q. absurd (place-other q)) (λ _. rw e refl)
 
 pub steps-spent : StepsSpent
 unfolding run
