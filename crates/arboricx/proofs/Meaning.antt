@@ -1,12 +1,31 @@
 -- What C gets of each answer is what specs/Meaning.antt says.
-use mathlib.Core.Path.{refl}
+use Prim.Native.Nat.{ℕ, _+_}
+use mathlib.Core.Path.{_≡_, refl}
+use mathlib.Core.List.{List, [], _∷_}
+use native.Mathlib.Nat.{add-zero, zero-add}
+use Rattle.engine.specs.declared.RunAnswer.{RunAnswer}
+use Rattle.engine.specs.declared.RunAnswer.the-variants.{Refused, Done, Stopped}
+use Rattle.engine.specs.Answer.{numbers}
+use Rattle.engine.specs.Run.{ran}
+use Rattle.arboricx.specs.Answers.{slotWord}
+use Rattle.arboricx.specs.Calls.{left, afterRun}
 use Rattle.arboricx.specs.Meaning.{LoadWordsAre, RunWordsAre, IndexWordsAre, PartWordsAre}
 
 pub load-words-are : LoadWordsAre
 load-words-are w e = (λ n. refl, λ nodes exports. refl)
 
 pub run-words-are : RunWordsAre
-run-words-are w j = (λ n. refl, λ slot steps used. refl, λ n f x steps used waiting. refl)
+run-words-are = (λ i. refl, words)
+  where
+    words : (w j : List ℕ) (a : RunAnswer) →
+        afterRun (ran w j a) ≡
+        left w j
+        (numbers a .number ∷ (slotWord (numbers a .slot) + slotWord (numbers a .f)) ∷ slotWord (numbers a .x) ∷
+        numbers a .steps ∷ numbers a .used ∷ numbers a .waiting ∷ [])
+        (numbers a .number)
+    words w j (Refused n) = refl
+    words w j (Done slot steps used) = rw (add-zero (slotWord slot))
+    words w j (Stopped n f x steps used waiting) = rw (zero-add (slotWord f))
 
 pub index-words-are : IndexWordsAre
 index-words-are = (λ n. refl, λ i. refl)

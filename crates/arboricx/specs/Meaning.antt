@@ -1,14 +1,15 @@
--- What C gets of each answer, in document 01's numbers, case by case. The proofs are in proofs/Meaning.antt.
-use Prim.Native.Nat.{ℕ}
+-- What C gets of each answer: document 01's numbers. The proofs are in proofs/Meaning.antt.
+use Prim.Native.Nat.{ℕ, _+_}
 use mathlib.Core.Path.{_≡_}
 use mathlib.Core.List.{List, [], _∷_}
 use lib.IntN.{pos}
 use Rattle.loader.specs.declared.LoadAnswer.the-variants as load
 use Rattle.loader.specs.Load.{loaded}
 use Rattle.bundle.specs.declared.exports.IndexAnswer.the-variants as index
-use Rattle.engine.specs.declared.RunAnswer.the-variants as run
+use Rattle.engine.specs.declared.RunAnswer.{RunAnswer}
+use Rattle.engine.specs.Answer.{numbers}
 use Rattle.engine.specs.Run.{ran}
-use Rattle.arboricx.specs.Answers.{partWords}
+use Rattle.arboricx.specs.Answers.{slotWord, partWords}
 use Rattle.arboricx.specs.Calls.{left, afterLoad, afterRun, told, afterIndex}
 
 -- Of a load: both tables as it leaves them; a refusal's number and zeros, or 0, the node count and the export count; the number.
@@ -18,17 +19,17 @@ LoadWordsAre =
     ((n : ℕ) → afterLoad (loaded w e (load.Refused n)) ≡ left w e (n ∷ 0 ∷ 0 ∷ []) n) ×
     ((nodes exports : ℕ) → afterLoad (loaded w e (load.Accepted nodes exports)) ≡ left w e (0 ∷ nodes ∷ exports ∷ []) 0)
 
--- Of a run: both tables as it leaves them; a refusal's number and zeros; 0, the result's slot, 0, steps, used count, 0; or the
--- stop's number, f, x, steps, used count, jobs waiting; the number. No slot that is answered is negative (SlotsNamed of engine).
+-- Of a run: both tables as it leaves them; its numbers, where a result and an f share a word, since a done run has no f, a stopped
+-- one no result, and numbers not named are 0; the number. A slot is its own word; none that is answered is negative (SlotsNamed of engine).
 abbrev pub RunWordsAre : Type 0
 RunWordsAre =
-    (w j : List ℕ) →
-    ((n : ℕ) → afterRun (ran w j (run.Refused n)) ≡ left w j (n ∷ 0 ∷ 0 ∷ 0 ∷ 0 ∷ 0 ∷ []) n) ×
-    ((slot steps used : ℕ) →
-    afterRun (ran w j (run.Done (pos slot) steps used)) ≡ left w j (0 ∷ slot ∷ 0 ∷ steps ∷ used ∷ 0 ∷ []) 0) ×
-    ((n f x steps used waiting : ℕ) →
-    afterRun (ran w j (run.Stopped n (pos f) (pos x) steps used waiting)) ≡
-    left w j (n ∷ f ∷ x ∷ steps ∷ used ∷ waiting ∷ []) n)
+    ((i : ℕ) → slotWord (pos i) ≡ i) ×
+    ((w j : List ℕ) (a : RunAnswer) →
+    afterRun (ran w j a) ≡
+    left w j
+    (numbers a .number ∷ (slotWord (numbers a .slot) + slotWord (numbers a .f)) ∷ slotWord (numbers a .x) ∷ numbers a .steps ∷
+    numbers a .used ∷ numbers a .waiting ∷ [])
+    (numbers a .number))
 
 -- Of an index by name: a refusal's number and 0, or 0 and the index; the number.
 abbrev pub IndexWordsAre : Type 0

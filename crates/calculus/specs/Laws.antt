@@ -20,7 +20,7 @@ pub data StopsAt (fuel free places : ℕ) : Tree → Tree → List Frame → Sto
   place-for-7 : {a b c u v : Tree} {js : List Frame} → 0 < fuel → places ≤ length js →
       StopsAt fuel free places (fork (fork a b) c) (fork u v) js no-place
 
--- A run takes no step, and stops so, exactly then.
+-- A run stops before its first step exactly there.
 abbrev pub StopsExactly : Type 0
 StopsExactly =
     (fuel free places : ℕ) (s : State) (why : Stop) →

@@ -20,12 +20,14 @@ pub data Action : Type 0 where
   -- an application, while a frame waits
   push : Tree → Tree → Frame → Action
 
--- the rules 1 to 7, a line each
 unfoldable pub rule : Tree → Tree → Action
+-- 1 to 3
 rule leaf x = make (stem x)
 rule (stem a) x = make (fork a x)
 rule (fork leaf a) x = give a
+-- 4
 rule (fork (stem a) b) x = push a x (operand b x)
+-- 5 to 7
 rule (fork (fork a b) c) leaf = give a
 rule (fork (fork a b) c) (stem u) = go b u
 rule (fork (fork a b) c) (fork u v) = push c u (argument v)

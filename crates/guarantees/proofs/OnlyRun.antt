@@ -85,7 +85,7 @@ module _ (call : RunCall) (refuses : RefusedExactly call) (simulates : RunSimula
 
   -- both are refused
   alike : (n : ℕ) (r : Ran) → RefusedWith n w j r → SameCall w j used base r (ran w j (Refused n))
-  alike n (ran v k a) (e, p, q) = rw (p, q) (both-refused {a = a} {a′ = Refused n} e)
+  alike n (ran v k a) (e, p, q) = rw (p, q) (both-refused {a = a} {a′ = Refused n} e refl)
 
   -- both are let start
   begun : Begins w base f x used → SameCall w j used base other (run w base f x used fuel j)

@@ -38,7 +38,7 @@ module _ (b n : ℕ) where
 
     one-request : (r r′ : Ran) (p : Reply) → Alike t c r p → Alike t′ c r′ p → Goes r r′
     one-request r r′ p (alike-refused {a = a} e z) (alike-refused {a = a′} e′ z′) = (
-      refused-alike {a = a} {a′ = a′} (e ∙ sym e′),
+      refused-alike {a = a} {a′ = a′} e e′,
       record {
         used = rw (e, e′, z) (pair .used);
         since = rw (e, z, seam (t .words), seam (t′ .words)) (pair .since);

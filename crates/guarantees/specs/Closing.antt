@@ -1,5 +1,5 @@
--- Why no wrong definition keeps the demands: nothing is left open by them, and the definitions that they are said in agree with
--- others of the same things. None of this has to be believed to believe the demands.
+-- What closes the demands: nothing is left open by them, and the definitions that they are said in agree with others of the same
+-- things. None of this has to be believed to believe the demands.
 use Prim.Native.Nat.{ℕ}
 use mathlib.Core.List.{List}
 use lib.ListN.{drop}
@@ -31,7 +31,7 @@ OnlyRuns =
 
 -- Nothing is left open: no other call keeps the promises that the demands make of it.
 pub record Closing : Type 0 where
-  -- of a load, where it leaves the bundle's trees, of a check, and of the calls on exports
+  -- of a load, of a check, and of the calls on exports
   pub only-load : OnlyLoad
   pub only-check : checks.OnlyCheck
   pub only-name : OnlyName
@@ -48,7 +48,7 @@ pub record Closing : Type 0 where
   pub one-start : OneStart
   pub one-frame-list : OneFrameList
 
--- What else document 01 says of the things that the demands speak of. A slip in a definition of theirs breaks one of these.
+-- The definitions of the demands agree with others of the same things; and what else document 01 says of these things.
 pub record Agreeing : Type 0 where
   -- sound is that none of 1 to 20 applies, described that none of 1 to 14 does
   pub sound-exactly : checks.SoundExactly

@@ -77,7 +77,7 @@ pub record Demand2 : Type 0 where
   pub reads-children : ReadsChildren
 
 -- 3. For every accepted bundle and every list of runs after it, refused ones included, the runs go as the bundle's own trees
--- do on the reference machine. One claim about the whole list: from the table and the used count that the load left (Loads), any
+-- do on the reference machine. One claim about the whole list: from the table and the used count that a load leaves (Loads), any
 -- requests, whatever each finds before the base, with the store that starts with the records' trees in the order of placing.
 abbrev pub AllRuns : RunCall → Type 0
 AllRuns call =

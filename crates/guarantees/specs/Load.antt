@@ -133,7 +133,8 @@ OnlyLoad =
 
 -- ---- the words before the base
 
--- No word before the base is looked at or changed: wherever our part stands, and whatever is before it, all else is the same.
+-- No word before the base is looked at or changed: wherever our part stands, and whatever is before it, all else is the same. With
+-- any other base the load is refused, and changes nothing.
 abbrev pub LoadBlind : Type 0
 LoadBlind =
     (file before before′ w exports : List ℕ) →

@@ -12,7 +12,7 @@ use Rattle.engine.specs.declared.RunAnswer.{RunAnswer}
 use Rattle.engine.specs.Run.{Ran, ran, run}
 use Rattle.engine.specs.Answer.{Numbers, numbers}
 use Rattle.guarantees.specs.Agrees.{doneWith, stoppedWith}
-use Rattle.guarantees.specs.Run.{RunCall, RefusedExactly, RunSimulates}
+use Rattle.guarantees.specs.Run.{RunCall, refusal, RefusedExactly, RunSimulates}
 use Rattle.guarantees.specs.Session.{Request, beforeOf, jobsOf, Bring, Table, answer, tableAfter, AllAlike}
 
 -- ---- one call
@@ -49,7 +49,8 @@ pub data SameEnd (n : ℕ) (v k v′ k′ : List ℕ) : Numbers → Numbers → 
 -- what two calls on the same tables leave and answer: both are refused alike, and leave the tables as they were; or both
 -- end alike, and leave the words before the base as they were
 pub data SameCall (w j : List ℕ) (used : ℕ) (base : ℤ) : Ran → Ran → Type 0 where
-  both-refused : {a a′ : RunAnswer} → numbers a ≡ numbers a′ → SameCall w j used base (ran w j a) (ran w j a′)
+  both-refused : {a a′ : RunAnswer} {n : ℕ} → numbers a ≡ refusal n → numbers a′ ≡ refusal n
+      → SameCall w j used base (ran w j a) (ran w j a′)
   both-ended : {b : ℕ} {v k v′ k′ : List ℕ} {a a′ : RunAnswer} → base ≡ pos b
       → SameEnd used v k v′ k′ (numbers a) (numbers a′)
       → SameCall w j used base (ran (take b w ++ v) k a) (ran (take b w ++ v′) k′ a′)
@@ -68,7 +69,7 @@ OnlyRun =
 -- what two calls leave and answer of one request, each in its own table: both are refused alike, and change nothing; or
 -- both end alike
 pub data SameAnswer (n : ℕ) (t t′ : Table) (c : Request) : Ran → Ran → Type 0 where
-  refused-alike : {a a′ : RunAnswer} → numbers a ≡ numbers a′
+  refused-alike : {a a′ : RunAnswer} {number : ℕ} → numbers a ≡ refusal number → numbers a′ ≡ refusal number
       → SameAnswer n t t′ c (ran (beforeOf c ++ t .words) (jobsOf c) a) (ran (beforeOf c ++ t′ .words) (jobsOf c) a′)
   ended-alike : {v k v′ k′ : List ℕ} {a a′ : RunAnswer} → SameEnd n v k v′ k′ (numbers a) (numbers a′)
       → SameAnswer n t t′ c (ran (beforeOf c ++ v) k a) (ran (beforeOf c ++ v′) k′ a′)

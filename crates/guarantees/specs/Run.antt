@@ -59,12 +59,13 @@ Tells (Refused n) = (n ≡ 21) ⊎ ((n ≡ 23) ⊎ (n ≡ 24))
 Tells (Done slot steps used) = Unit {0}
 Tells (Stopped n f x steps used waiting) = (31 ≤ n) × (n ≤ 33)
 
-abbrev pub OneAnswer : Type 0
-OneAnswer = (a a′ : RunAnswer) → Tells a → Tells a′ → numbers a ≡ numbers a′ → a ≡ a′
-
 abbrev pub NumberTells : Type 0
 NumberTells =
     (w v j k : List ℕ) (base f x : ℤ) (used fuel : ℕ) (a : RunAnswer) → run w base f x used fuel j ≡ ran v k a → Tells a
+
+-- and with it the numbers tell the whole answer
+abbrev pub OneAnswer : Type 0
+OneAnswer = (a a′ : RunAnswer) → Tells a → Tells a′ → numbers a ≡ numbers a′ → a ≡ a′
 
 -- 21: base negative or past the end of the table, or used count 0 or above room
 pub data OutOfTable (w : List ℕ) : ℤ → ℕ → Type 0 where
@@ -101,7 +102,7 @@ JobsSound =
     → SoundJobs (numbers a .used) k (numbers a .waiting)
 
 -- No word before the base is looked at or changed: wherever our part stands, and whatever is before it, the answer, our part and
--- the frame table come out the same. Where the base is negative or past the end, no part is ours, and all is 21.
+-- the frame table come out the same. With a base that is negative or past the end every run is refused with 21.
 abbrev pub BaseBlind : Type 0
 BaseBlind =
     (before before′ w j : List ℕ) (f x : ℤ) (used fuel : ℕ)

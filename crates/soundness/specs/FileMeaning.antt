@@ -37,7 +37,7 @@ abbrev pub OneDirectory : Type 0
 OneDirectory =
     (file : List ℕ) (h g : Header) (es ds : List Entry) → HasDirectory h es file → HasDirectory g ds file → es ≡ ds
 
--- its entries are those that are read, all but their versions; the digests by their places
+-- its entries are those that are read: all but their versions, and of a digest where it stands, so that `digestOf` reads it there
 abbrev pub ReadsDirectory : Type 0
 ReadsDirectory =
     (file : List ℕ) (h : Header) (es : List Entry) → HasDirectory h es file →
