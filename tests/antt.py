@@ -16,7 +16,7 @@ USE = re.compile(r"^use ([^\n{]*(?:\{[^}]*\})?)$", re.M)
 PART = {"pub record": re.compile(r"^  pub (\S+) :", re.M), "pub data": re.compile(r"^  (\S+) :", re.M)}
 # the calls' own definitions: the contracts of the public functions are equations with them
 CALLS = {
-    "bundle/Checks": ["refusal", "nameRefusal"],
+    "bundle/Checks": ["refusal"],
     "bundle/Exports": ["namePart", "nameCall", "indexCall"],
     "loader/Load": ["load"],
     "engine/Run": ["run"],
@@ -78,10 +78,13 @@ class Module:
         return f"{self.crate}/{self.name}"
 
     def look(self):
-        """A line of no known kind is a fault, so that no declaration is passed over; so is a `use` of neither specs nor the kit."""
-        for what in USE.findall(self.text):
-            if not re.match(r"(Prim|mathlib|lib|Rattle·\w+(·specs)?\.specs)\.", what):
-                raise Fault(f"{self.path}: use {what}: neither of the kit's library nor of specs")
+        """A line of no known kind is a fault, so that no declaration is passed over; so is a `use` of neither specs nor the kit, or after a declaration."""
+        first = min((self.text.index("\n".join(i.lines)) for i in self.items.values()), default=len(self.text))
+        for use in USE.finditer(self.text):
+            if not re.match(r"(Prim|mathlib|lib|Rattle·\w+(·specs)?\.specs)\.", use[1]):
+                raise Fault(f"{self.path}: {use[0]}: neither of the kit's library nor of specs")
+            if use.start() > first:
+                raise Fault(f"{self.path}: {use[0]}: after a declaration")
         item = None
         for number, line in enumerate(USE.sub(lambda use: "\n" * use[0].count("\n"), self.text).split("\n"), 1):
             if HEAD.match(line):

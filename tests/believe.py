@@ -23,7 +23,7 @@ import guarantees
 PAGE = "docs/TRUST.md"
 DEMANDS = "crates/guarantees/specs/Demands.antt"
 CLOSING = "crates/guarantees/specs/Closing.antt"
-# lines with their comments, blank lines and `use` lines left out; a reader can be asked to believe fewer
+# lines of definitions with the comments above and in them, which `--text` prints; a reader can be asked to believe fewer
 MOST = 1100
 # definitions that a field of the demands determines, wherever the demands name them
 FIXED = {
@@ -49,13 +49,13 @@ class Closure:
         records = [i for m in specs.order for i in m.items.values() if i.kind == "pub record"]
         read = self.reached([i for i in records if i.name.startswith("Demand")])
         more = self.reached([i for i in records if i.module.path == CLOSING]) - read
-        self.declared = sorted(i for i in read | more if isinstance(i, str))
-        self.calls = [c for c in self.calls if c in read | more]
-        self.fixed = {i: field for i, field in self.fixed.items() if i in read | more}
-        self.files, self.closing = self.of_files(read - self.stops), self.of_files(more - self.stops)
-        self.for_c = {m: list(m.items.values()) for m in specs.order if m.crate == "arboricx"}
-        known = read | more | self.stops
-        self.outside = [m for m in specs.order if m not in self.for_c and set(m.items.values()) - known]
+        for_c = self.reached([i for m in specs.order if m.crate == "arboricx" for i in m.items.values()]) - read - more
+        known = read | more | for_c
+        self.declared = sorted(i for i in known if isinstance(i, str))
+        self.calls = [c for c in self.calls if c in known]
+        self.fixed = {i: field for i, field in self.fixed.items() if i in known}
+        self.files, self.closing, self.for_c = (self.of_files(items - self.stops) for items in (read, more, for_c))
+        self.outside = [m for m in specs.order if set(m.items.values()) - known - self.stops]
 
     def definition(self, module, name):
         found = self.specs.modules.get(tuple(module.split("/")))
@@ -239,20 +239,24 @@ def wrong(text, texts):
         ("names one by the file", " as other", f"other.{name}"),
         ("names one that is a variable too", f".{{{name} as more}}", "(more : ℕ) → more ≡ more"),
     ):
-        yield f"a demand that {label}", text, {DEMANDS: f"{demands}\nuse {path}{use}\n{record}{new}\n"}, f"{file} "
-    new = f"\nuse {path}.{{{name} as more}}\n" + record.replace("Demand0", "Closing0") + "more\n"
-    yield "a closing record that names a definition more", text, {CLOSING: texts[CLOSING] + new}, f"{file} "
+        yield f"a demand that {label}", text, {DEMANDS: f"use {path}{use}\n{demands}{record}{new}\n"}, f"{file} "
+    new = f"use {path}.{{{name} as more}}\n{texts[CLOSING]}" + record.replace("Demand0", "Closing0") + "more\n"
+    yield "a closing record that names a definition more", text, {CLOSING: new}, f"{file} "
+    answers = "crates/arboricx/specs/Answers.antt"
+    new = f"use {path}.{{{name} as more}}\n{texts[answers]}\nabbrev pub other : Type 0\nother = more\n"
+    yield "a definition for C that names one more", text, {answers: new}, "another order or form"
     yield "a field that determines a definition is gone", text, {DEMANDS: demands.replace("pub room-is :", "pub room :")}, "is to determine"
     for other in ("ℕ", "JobRoomIs"):
         new = demands.replace("pub room-is : RoomIs", f"pub room-is : {other}")
         yield f"{other} for a statement that determines a definition", text, {DEMANDS: new}, "Demand1.room-is does not determine table/Slots"
-    new = record + "ℕ\n" + "  -- more\n" * (MOST - closure.lines() - 2)
-    yield "demands that have too many comments", text, {DEMANDS: demands + new}, f"{MOST:,} lines are to be believed"
+    new = record + "ℕ\n" + "  -- more\n" * (MOST - closure.lines())
+    yield "demands that have too many comments", text, {DEMANDS: demands + new}, "lines are to be believed"
     for new in ("abbrev more : ℕ", "pub more : ℕ", "pub codata More : Type 0", "module _ where", "pub use lib.ListN.{drop}"):
         yield f"'{new}'", text, {DEMANDS: f"{demands}\n{new}\n"}, "of a kind that tests/antt.py does not know"
     new = demands.replace("  pub room-is :", "  room-is :")
     yield "a field that is not public", text, {DEMANDS: new}, "of a kind that tests/antt.py does not know"
     yield "a `use` of proofs", text, {DEMANDS: demands.replace("use ", "use Rattle.table.proofs.Slots.{more}\nuse ", 1)}, "nor of specs"
+    yield "a `use` after a declaration", text, {DEMANDS: f"{demands}\nuse {path}.{{{name}}}\n"}, "after a declaration"
     yield "a name brought twice", text, {DEMANDS: f"use {path}.{{{name} as room}}\n{demands}"}, "two `use` lines bring room"
     lib = "crates/guarantees/specs/Lib.antt"
     yield "a declaration beside the files", text, {lib: texts[lib] + "abbrev pub more : ℕ\nmore = 0\n"}, "a line that is no 'pub mod'"

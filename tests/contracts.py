@@ -127,8 +127,13 @@ class Sources:
 
 def heads(name):
     """The names of a public contract that a `ghost use` has to bring."""
-    words = re.findall(r"[^\s()]+", CONTRACTS[name])
-    return [known for word in words for known in (word, f"_{word}_") if known in WHERE]
+    found = []
+    for word in re.findall(r"[^\s()]+", CONTRACTS[name]):
+        if word in WHERE or f"_{word}_" in WHERE:
+            found.append(word if word in WHERE else f"_{word}_")
+        elif word not in ("LEFT", "GIVEN", "now", "r", "×", *WRITTEN, ".entry", ".exit"):
+            raise antt.Fault(f"tests/contracts.py: {name}: SOURCES does not say where '{word}' comes from")
+    return found
 
 
 def equation(shape, parameters, returned):
