@@ -5,12 +5,13 @@
 
 Each page is one table, with headings between groups of rows. What stands in `..` in a row is a reference, by its column:
 
-    Statement   crate/Module.Name       a declaration of crates/crate/specs/Module.antt, or a field Demand1.name of a record of RECORDS
-    Definition  crate/Module.name       a declaration there; crate/Module.Name.part is a constructor or a field of it
+    Statement   Name                    a declaration of some crates/crate/specs/Module.antt, or a field Demand1.name of a record of RECORDS
+    Definition  name                    a declaration there; Name.part is a constructor or a field of it
     Function    crate::module::name     a function or method with a contract, a constant or a type of crates/crate/src; or a path
-    Proof       crate/Module.name       a `pub name : ..` of crates/crate/proofs/Module.antt
+    Proof       name                    a `pub name : ..` of some crates/crate/proofs/Module.antt
     Edits       crate: label, label     files of crates/crate/must-fail
 
+Where several files declare a name, it is written crate/Module.name.
 It fails unless every reference is there; each statement has in its row a proof of that type, the statement itself or applied to calls,
 with no hypothesis, and each proof of a declared statement has that in its row; every must-fail edit stands in just one row; every field
 of those records, every statement that is proved, every function that is exported for C and every public call stands in some row; and
@@ -26,7 +27,7 @@ import sys
 import antt
 import contracts
 
-COLUMNS = ["Document 01", "Statement", "Definition", "Function", "Proof", "Edits"]
+COLUMNS = ["Paper", "Statement", "Definition", "Function", "Proof", "Edits"]
 # files whose records are statements: the three demands, and what closes them
 RECORDS = ["crates/guarantees/specs/Demands.antt", "crates/guarantees/specs/Closing.antt"]
 # what a statement may be applied to where it is proved: the calls
@@ -65,12 +66,18 @@ class Tree(contracts.Sources):
         self.fields = {f"{record.name}.{name}": (record, kind.split()) for record in records for name, kind in record.inner.items()}
         self.edits = {tuple(re.fullmatch(r"crates/(\w+)/must-fail/(.+)\.edit", p).groups()) for p in texts if p.endswith(".edit")}
         self.proved = {}
+        self.declares = [f"{module}.{name}" for module in self.specs.order for name in module.items]
+        self.proves = []
         for path, text in texts.items():
             if where := re.fullmatch(r"crates/(\w+)/proofs/(.+)\.antt", path):
-                _, types, used = proofs_of(path, text)
+                names, types, used = proofs_of(path, text)
+                module = f"{where[1]}/{where[2].replace('/', '.')}"
+                self.proves += [f"{module}.{name}" for name in names]
                 for name, kind in types.items():
                     if statement := self.statement(kind, *used):
-                        self.proved[f"{where[1]}/{where[2].replace('/', '.')}.{name}"] = statement
+                        self.proved[f"{module}.{name}"] = statement
+        self.files_of = {column: by_last(known) for column, known in (("Definition", self.declares), ("Proof", self.proves))}
+        self.files_of["Statement"] = self.files_of["Definition"]
 
     def statement(self, kind, brought, aliases):
         """The declaration that a type is, with the calls that it is applied to; None where it is another type, like one with an arrow."""
@@ -97,12 +104,18 @@ class Tree(contracts.Sources):
         text = self.texts[path]
         return f"{path}:{text[: text.index(f'  pub {name} :', text.index(f'pub record {record} '))].count(chr(10)) + 1}"
 
+    def whole(self, column, name):
+        """A name of a row with the file that declares it; as it stands where no file does, or several do."""
+        first, dot, part = name.partition(".")
+        found = self.files_of.get(column, {}).get(first, [])
+        return found[0] + dot + part if "/" not in name and name not in self.fields and len(found) == 1 else name
+
     # ---- references: each answers what is wrong with it, or None
 
     def declaration(self, name):
         found = re.fullmatch(r"(\w+)/([\w.]+?)\.([^\s.]+)(?:\.([^\s.]+))?", name)
         if not found:
-            return "no reference of the form crate/Module.Name"
+            return f"{len(self.files_of['Definition'].get(name.split('.')[0], []))} files of specs declare it, and it is no field of the records"
         crate, module, declared, part = found.groups()
         if part and (crate, f"{module}.{declared}") in self.specs.modules:
             module, declared, part = f"{module}.{declared}", part, None
@@ -118,7 +131,7 @@ class Tree(contracts.Sources):
     def proof(self, name):
         found = re.fullmatch(r"(\w+)/([\w.]+)\.([^\s.]+)", name)
         if not found:
-            return "no reference of the form crate/Module.name"
+            return f"{len(self.files_of['Proof'].get(name, []))} files of proofs declare it"
         path = f"crates/{found[1]}/proofs/{found[2].replace('.', '/')}.antt"
         if path not in self.texts:
             return f"there is no {path}"
@@ -146,13 +159,27 @@ def record_faults(tree):
 
 
 class Row:
+    """The names of a row by their columns, as they stand there; `names` has each with its file."""
+
     def __init__(self, page, line, cells):
         self.place, self.cells = f"{page}:{line}", cells
-        self.names = {c: re.findall(r"`([^`]*)`", cell) for c, cell in zip(COLUMNS, cells)}
+        self.written = {c: re.findall(r"`([^`]*)`", cell) for c, cell in zip(COLUMNS, cells)}
+        self.names = self.written
         self.edits = []
-        for group in self.names["Edits"]:
+        for group in self.written["Edits"]:
             crate, _, labels = group.partition(":")
             self.edits += [(crate.strip(), label.strip()) for label in labels.split(",")]
+
+    def resolve(self, tree):
+        self.names = {column: [tree.whole(column, name) for name in names] for column, names in self.written.items()}
+
+
+def by_last(names):
+    """Names like crate/Module.name by their last part."""
+    found = {}
+    for name in names:
+        found.setdefault(name.rpartition(".")[2], []).append(name)
+    return found
 
 
 def rows_of(page, text):
@@ -188,16 +215,15 @@ def faults(texts):
         for number, line in enumerate(texts[page].split("\n"), 1):
             words = re.sub(r"`[^`]*`", "", line) if line.startswith("|") else line
             found += [f"{page}:{number}: there is no {path}" for path in PATH.findall(words) if path not in texts]
+    for row in rows:
+        row.resolve(tree)
     standing = {column: {} for column in COLUMNS}
     look = {"Statement": tree.declaration, "Definition": tree.declaration, "Function": tree.function, "Proof": tree.proof}
     for row in rows:
         for column, ask in look.items():
             for name in row.names[column]:
                 standing[column].setdefault(name, row)
-                if column == "Statement" and "/" not in name:
-                    if name not in tree.fields:
-                        found.append(f"{row.place}: {name}: there is no such field in {' or '.join(RECORDS)}")
-                elif wrong := ask(name):
+                if not (column == "Statement" and name in tree.fields) and (wrong := ask(name)):
                     found.append(f"{row.place}: {name}: {wrong}")
         found += joined(tree, row)
         for edit in row.edits:
@@ -214,7 +240,7 @@ def faults(texts):
         statement = statement.split()[0]
         crate, module, name = re.fullmatch(r"(\w+)/(.+)\.(\S+)", statement).groups()
         item = tree.specs.modules[crate, module].items[name]
-        if re.search(r" : Type 0$", item.code.split("\n")[0]) and item.kind == "abbrev pub" and statement not in standing["Statement"]:
+        if re.search(r"Type 0\s*$", item.head) and item.kind == "abbrev pub" and statement not in standing["Statement"]:
             found.append(f"crates/{crate}/specs/{module.replace('.', '/')}.antt:{item.start}: {statement} is proved by {proof} and stands in no row")
     functions, wrong = tree.exported()
     found += wrong
@@ -247,6 +273,8 @@ def wrong(texts):
     rows = rows_of(page, texts[page])[0]
     lines = texts[page].split("\n")
     tree = Tree(texts)
+    for row in rows:
+        row.resolve(tree)
 
     def in_row(row, old, new):
         number = int(row.place.split(":")[1])
@@ -255,18 +283,20 @@ def wrong(texts):
     # the page
     for column in ("Statement", "Definition", "Function", "Proof"):
         row = next(r for r in rows if r.names[column])
-        name = row.names[column][0]
-        yield f"a name that is not there, under {column}", in_row(row, f"`{name}`", f"`{name}x`"), f"{row.place}: {name}x: "
+        name = row.written[column][0]
+        yield f"a name that is not there, under {column}", in_row(row, f"`{name}`", f"`{name}x`"), f"{name}x: "
+    row = next(r for r in rows if "calculus/Cases.CasesHold" in r.written["Statement"])
+    yield "a name that several files declare", in_row(row, "`calculus/Cases.CasesHold`", "`CasesHold`"), f"{row.place}: CasesHold: 3 files of specs"
     row = next(r for r in rows if r.names["Statement"] and r.names["Proof"])
-    yield "a proof left out", in_row(row, f"`{row.names['Proof'][0]}`", ""), f"{row.place}: {row.names['Statement'][0]}: no proof of this row"
+    yield "a proof left out", in_row(row, f"`{row.written['Proof'][0]}`", ""), f"{row.place}: {row.names['Statement'][0]}: no proof of this row"
     row = next(r for r in rows if r.edits)
     crate, label = row.edits[0]
-    rest = row.names["Edits"][0].replace(label, "").strip(" ,")
-    yield "an edit left out", in_row(row, f"`{row.names['Edits'][0]}`", f"`{rest}`"), f"{crate}/must-fail/{label}.edit: stands in no row"
+    rest = row.written["Edits"][0].replace(label, "").strip(" ,")
+    yield "an edit left out", in_row(row, f"`{row.written['Edits'][0]}`", f"`{rest}`"), f"{crate}/must-fail/{label}.edit: stands in no row"
     yield "an edit that is not there", in_row(row, label, "nowhere"), f"there is no crates/{crate}/must-fail/nowhere.edit"
     yield "a row with a cell more", in_row(row, "| ", "| and | "), f"{row.place}: 7 cells, not 6"
     other = next(r for r in rows if r.edits and r is not row)
-    twice = in_row(other, f"`{other.names['Edits'][0]}`", f"`{other.names['Edits'][0]}`, `{crate}: {label}`")
+    twice = in_row(other, f"`{other.written['Edits'][0]}`", f"`{other.written['Edits'][0]}`, `{crate}: {label}`")
     yield "an edit in two rows", twice, f"{crate}: {label}: stands in {row.place} too"
     yield "a path that is not there", {page: texts[page] + "\nSee docs/NOWHERE.md.\n"}, "there is no docs/NOWHERE.md"
     yield "one in a row", in_row(row, "| ", "| docs/NOWHERE.md "), f"{row.place}: there is no docs/NOWHERE.md"
@@ -306,13 +336,15 @@ def wrong_statements(texts, tree, rows):
             ("of something else", f"pub {name} : {kind}′\n"),
         ):
             yield f"a proof {label}, for {says}", {path: texts[path].replace(line, new)}, part
+    bare = {p: re.sub(rf"`(\S+\.)?{applied[2].rpartition('.')[2]}`", "", texts[p]) for p in pages(texts)}
+    yield f"{applied[2]} left out", bare, f"{applied[2]} is proved by"
     path, name, kind = proof_of(texts, of_field[1])
     new = texts[path].replace(f"pub {name} : {kind}\n", f"pub {name} : {kind.rpartition(' ')[0]} another\n")
     use = "use Rattle.engine.specs.Run.{run as another}\n"
     yield "a field's proof, of another call", {path: use + new}, f"{of_field[0].place}: {of_field[2]}: no proof of this row"
 
     path, name, kind = proof_of(texts, plain[1])
-    yield "a proof that is gone", {path: texts[path].replace(f"pub {name} :", f"{name} :")}, f"{path} has no 'pub {name} :'"
+    yield "a proof that is gone", {path: texts[path].replace(f"pub {name} :", f"{name} :")}, f"{plain[0].place}: {plain[2]}: no proof of this row"
     crate, module, _ = re.fullmatch(r"(\w+)/(.+)\.(\S+)", plain[2]).groups()
     specs = f"crates/{crate}/specs/{module.replace('.', '/')}.antt"
     yield "a statement that no row has", {
