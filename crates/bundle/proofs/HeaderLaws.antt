@@ -1,11 +1,11 @@
 -- What it says that 1 to 5 do not hold.
 use Prim.Native.Nat.{ℕ, _+_, _*_, _≤_}
-use mathlib.Core.Path.{_≡_, refl}
+use mathlib.Core.Path.{_≡_}
 use mathlib.Core.List.{List}
 use mathlib.Core.Bool.{false}
 use mathlib.Core.Logic.{_↔_}
 use native.Mathlib.Omega.{arith}
-use lib.ListN.{length, take, drop}
+use lib.ListN.{length, take}
 use Rattle.wire.specs.Wire.{ascii}
 use Rattle.wire.proofs.Bytes.{holds-exactly}
 use Rattle.sizes.specs.Sizes.{fileSize, sectionsSize}

@@ -1,6 +1,6 @@
 -- The checks of a changed bundle, where no block that the bundle itself has is computed again.
 use Prim.Native.Nat.{ℕ, zero, suc, _/_}
-use mathlib.Core.Path.{_≡_, refl, ap, _∙_}
+use mathlib.Core.Path.{_≡_, refl, ap}
 use mathlib.Core.List.{List, [], _∷_, _++_, map}
 use mathlib.Core.Bool.{Bool, false, not, cond}
 use lib.ListN.{length, getD, take, drop, set}
@@ -12,7 +12,8 @@ use Rattle.sha256_block.specs.Fips180.{compress, hash, bytesOf, sha256}
 use Rattle.nodes.specs.Records.{Node, nodesOf, nodeHash, faulty as recordFaulty, someFaulty as someRecord}
 use Rattle.bundle.specs.Directory.{entries, known, sectionOf, digestOf, altered, nodesSection, faulty as entryFaulty}
 use Rattle.bundle.specs.Directory.{someFaulty as someEntry}
-use Rattle.bundle.specs.Checks.{_when_, firstOf, headerChecks, directoryChecks, manifestChecks, nodeChecks, nameChecks, checks, refusal}
+use Rattle.bundle.specs.Checks.{_when_, firstOf, headerChecks, directoryChecks, manifestChecks, nodeChecks, nameChecks}
+use Rattle.bundle.specs.Checks.{checks, refusal}
 use Rattle.bundle_example.specs.Leaf.{leafBundle}
 
 -- what a block makes of a hash value

@@ -5,7 +5,7 @@ use native.Mathlib.Omega.{arith}
 use lib.ListN.{length}
 use Rattle.calculus.specs.Tree.{Tree}
 use Rattle.calculus.specs.Machine.{State, Stop, no-fuel, no-slot, no-place, Turn, going, done, stop, step, Outcome, run}
-use Rattle.calculus.specs.Machine.{ended, stopped, halted, finished, stepped, proceed}
+use Rattle.calculus.specs.Machine.{ended, halted, finished, stepped, proceed}
 use Rattle.calculus.specs.Laws.{RunsOut, StepsSpent}
 use Rattle.calculus.proofs.FuelCuts.{Fuelled, step-fuelled}
 

@@ -1,5 +1,5 @@
 -- A run stops before its first step exactly where document 01's line says so, and with its numbers.
-use Prim.Native.Nat.{ℕ, zero, suc, _≤_, _<_}
+use Prim.Native.Nat.{ℕ, zero, suc, _≤_}
 use mathlib.Core.Path.{_≡_, refl, ap, subst}
 use mathlib.Core.Bool.{cond}
 use mathlib.Core.List.{List, [], _∷_}
@@ -13,7 +13,8 @@ use Rattle.calculus.specs.Tree.{Tree, leaf, stem, fork}
 use Rattle.calculus.specs.Rules.{Frame, operand, argument, function, rule}
 use Rattle.calculus.specs.Machine.{State, Stop, no-fuel, no-slot, no-place, Turn, going, done, stop, meet, carry, step}
 use Rattle.calculus.specs.Machine.{Ending, ended, stopped, Outcome, halted, proceed, run}
-use Rattle.calculus.specs.Laws.{StopsAt, fuel-out, slot-for-1, slot-for-2, place-for-4, place-for-7, StopsExactly, StopNumbers}
+use Rattle.calculus.specs.Laws.{StopsAt, fuel-out, slot-for-1, slot-for-2, place-for-4, place-for-7, StopsExactly}
+use Rattle.calculus.specs.Laws.{StopNumbers}
 
 -- why a run ended without being done
 abbrev reason : Ending → Stop

@@ -1,11 +1,9 @@
 -- The words before the base are not looked at: both calls are one and the same run on our part.
 use mathlib.Core.Path.{_≡_}
 use mathlib.Core.List.{List, _++_}
-use lib.ListN.{length}
-use lib.IntN.{ℤ, pos}
 use Prim.Native.Nat.{ℕ}
 use Rattle.engine.specs.declared.RunAnswer.{RunAnswer}
-use Rattle.engine.specs.Run.{Ran, ran, run, runTail, behind}
+use Rattle.engine.specs.Run.{Ran, ran, runTail, behind}
 use Rattle.guarantees.specs.Run.{BaseBlind}
 use Rattle.guarantees.proofs.Calls.{run-behind}
 

@@ -17,7 +17,7 @@ use Rattle.nodes.specs.Records.{nodesOf}
 use Rattle.bundle.specs.Directory.{manifestSection, nodesSection}
 use Rattle.bundle.specs.Checks.{Check, headerChecks, directoryChecks, manifestChecks, nodeChecks, nameChecks, checks}
 use Rattle.soundness.specs.Sound.{Sound}
-use Rattle.soundness.specs.Applies.{HasManifest, manifest, HasNodes, nodes, Applies, Smallest}
+use Rattle.soundness.specs.Applies.{manifest, nodes, Applies, Smallest}
 use Rattle.soundness.proofs.ManifestMeaning.{reads-exports}
 use Rattle.soundness.proofs.NodesMeaning.{reads-nodes}
 use Rattle.soundness.proofs.File.{false-of, clear-sound, sound-clear}
@@ -28,7 +28,8 @@ use Rattle.loader.specs.declared.LoadAnswer.the-variants.{Refused}
 use Rattle.loader.specs.Answer.{numbers}
 use Rattle.loader.specs.Load.{recordsIn, exportsIn, unfit, crowded, loadChecks, loadRefusal, Loaded, accept, acceptFrom, load}
 use Rattle.loader.proofs.Refusals.{load-ascends}
-use Rattle.guarantees.specs.Load.{Unfit, base-negative, Loadable, answerOf, AcceptedExactly, LoadNumberExactly, LoadRefusalKeeps}
+use Rattle.guarantees.specs.Load.{Unfit, base-negative, Loadable, answerOf, AcceptedExactly, LoadNumberExactly}
+use Rattle.guarantees.specs.Load.{LoadRefusalKeeps}
 use Rattle.guarantees.specs.Load.{LoadApplies, of-file, unfit as at-21, crowded as at-22}
 use Rattle.guarantees.proofs.LoadVerdict.{fits-exactly, unrefused-exactly, load-unrefused, load-refused}
 

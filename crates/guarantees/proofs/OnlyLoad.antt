@@ -1,8 +1,7 @@
 -- A call that keeps the promises of the load call does what it does: what both accept they leave and answer alike, and what
 -- they refuse has one lowest number.
-use Prim.Native.Nat.{ℕ, _<_}
+use Prim.Native.Nat.{_<_}
 use mathlib.Core.Path.{_≡_, refl, sym, ap, _∙_}
-use mathlib.Core.List.{List}
 use mathlib.Core.Logic.{Iff·rfl}
 use native.Mathlib.Omega.{arith}
 use native.Mathlib.Decide.{ℕ-discrete}

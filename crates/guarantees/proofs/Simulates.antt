@@ -1,6 +1,6 @@
 -- A run on the two tables is the reference machine's: a step by the rule that applies, a run by its fuel.
 use Prim.Native.Nat.{ℕ, zero, suc, _+_, _-_, _≤_, _<_}
-use mathlib.Core.Path.{_≡_, refl, sym, ap, _∙_, subst}
+use mathlib.Core.Path.{_≡_, refl, sym, ap, subst}
 use mathlib.Core.List.{List, [], _∷_, _++_, reverse, reverse-cons}
 use native.Mathlib.Omega.{arith}
 use native.Mathlib.Nat.{le-refl, add-zero}
@@ -28,7 +28,8 @@ use Rattle.table.proofs.SoundLaws.{slots-sound, sound-next}
 use Rattle.table.proofs.FrameLaws.{frame-room-long, frame-is, length-put-frame, record-here, record-other, zero-over}
 use Rattle.table.proofs.FrameLaws.{length-drop, record-dropped, zero-drop, stands-kept}
 use Rattle.table.proofs.HoldsLaws.{held-below, leaf-view, stem-view, fork-view, put-stem, put-fork}
-use Rattle.table.proofs.HoldsLaws.{zero-leaf, from-kept, from-append, untouched-refl, untouched-put, untouched-trans, untouched-kept}
+use Rattle.table.proofs.HoldsLaws.{zero-leaf, from-kept, from-append, untouched-refl, untouched-put, untouched-trans}
+use Rattle.table.proofs.HoldsLaws.{untouched-kept}
 use Rattle.engine.specs.declared.step.State.{State}
 use Rattle.engine.specs.declared.step.Status.the-variants.{Going, Done as IsDone, NoSlot, NoPlace}
 use Rattle.engine.specs.declared.RunAnswer.the-variants.{Done, Stopped}

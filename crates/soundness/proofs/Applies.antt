@@ -1,15 +1,10 @@
 -- The answer of the checks is the smallest number that applies: proofs of specs/Applies.antt.
-use Prim.Native.Nat.{ℕ, _+_, _≤_, _<_}
-use mathlib.Core.Path.{_≡_, refl, sym, subst, _∙_}
-use mathlib.Core.List.{List, [], _∷_, _++_}
-use mathlib.Core.Bool.{true, false}
-use mathlib.Core.Logic.{_↔_}
+use Prim.Native.Nat.{ℕ, _≤_, _<_}
+use mathlib.Core.Path.{_≡_}
+use mathlib.Core.List.{List, _++_}
 use native.Mathlib.Omega.{arith}
-use native.Mathlib.Decide.{ℕ-discrete, decLt, decLe}
-use lib.ListN.{length}
-use Rattle.wire.specs.Relations.{Among, here, there}
-use Rattle.bundle.specs.Directory.{entries, occurrences, section, manifestSection, nodesSection}
-use Rattle.bundle.specs.Checks.{Check, firstOf, headerChecks, directoryChecks, manifestChecks, nodeChecks, nameChecks, checks}
+use Rattle.bundle.specs.Directory.{manifestSection, nodesSection}
+use Rattle.bundle.specs.Checks.{headerChecks, directoryChecks, manifestChecks, nodeChecks, nameChecks, checks}
 use Rattle.bundle.specs.Checks.{nameRefusal, refusal}
 use Rattle.bundle.proofs.Rows.{Ascends, Clear, clear-parts}
 use Rattle.soundness.specs.FileGrammar.{HasDirectory, SectionOf, Occurs, OccursAgain}

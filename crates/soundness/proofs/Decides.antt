@@ -16,10 +16,6 @@ pub dec-true : {A : Type 0} (b : Bool) → (b ≡ true) ↔ A → Dec A
 dec-true true f = yes (f .0 refl)
 dec-true false f = no (λ a. not-both (f .1 a) refl)
 
-pub dec-false : {A : Type 0} (b : Bool) → (b ≡ false) ↔ A → Dec A
-dec-false true f = no (λ a. not-both refl (f .1 a))
-dec-false false f = yes (f .0 refl)
-
 pub dec-same : (a b : List ℕ) → Dec (a ≡ b)
 dec-same a b = dec-true (sameBytes a b) (same-exactly a b)
 

@@ -1,5 +1,5 @@
 -- The calls on exports answer what specs/ExportCalls.antt says.
-use Prim.Native.Nat.{ℕ, _+_, _≤_, _<_}
+use Prim.Native.Nat.{ℕ, _≤_, _<_}
 use mathlib.Core.Path.{_≡_, refl, sym, ap, subst, _∙_}
 use mathlib.Core.List.{List, [], _∷_, _++_}
 use native.Mathlib.Nat.{sub-zero}
@@ -28,7 +28,8 @@ use Rattle.soundness.specs.Sound.{Described}
 use Rattle.soundness.specs.Applies.{Applies, Smallest}
 use Rattle.soundness.specs.ExportCalls.{BeforeExport, before-export, IsNamePart, name-part}
 use Rattle.soundness.specs.ExportCalls.{NameByIndex, NameRefused, NameBytes, NameInFile, OnlyName}
-use Rattle.soundness.specs.ExportCalls.{IndexCall, index, IndexByName, NoSuchName, EmptyName, IndexRefused, IndexTells, IndexBelow, OnlyIndex}
+use Rattle.soundness.specs.ExportCalls.{IndexCall, index, IndexByName, NoSuchName, EmptyName, IndexRefused, IndexTells}
+use Rattle.soundness.specs.ExportCalls.{IndexBelow, OnlyIndex}
 use Rattle.soundness.proofs.ManifestLengths.{head-long, export-long, sequence-long}
 use Rattle.soundness.proofs.ManifestMeaning.{reads-exports}
 use Rattle.soundness.proofs.Applies.{name-number-exactly, name-none-exactly}

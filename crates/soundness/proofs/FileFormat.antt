@@ -3,14 +3,14 @@ use Prim.Native.Nat.{ℕ, zero, suc, _+_, _*_, _≤_}
 use mathlib.Core.Path.{_≡_, refl, sym, ap, _∙_, subst}
 use mathlib.Core.List.{List, [], _∷_, _++_}
 use native.Mathlib.Omega.{arith}
-use lib.ListN.{length, take, drop, length-append, take-append-drop, length-take}
+use lib.ListN.{length, take, drop, take-append-drop, length-take}
 use Rattle.wire.specs.Wire.{bigEndian, numberAt, span, orZero}
 use Rattle.wire.specs.Relations.{Number, Sequence, none, next, Among}
 use Rattle.wire.proofs.Parts.{part-length}
 use Rattle.wire.proofs.Spans.{number-in, span-in}
-use Rattle.wire.proofs.Reading.{Reads, reads-none, reads-join, reads-split, part-reads, reads-all, all-reads, reads-span, reads-number}
-use Rattle.bundle.specs.Header.{sectionCount, directoryOffset}
-use Rattle.soundness.specs.FileGrammar.{Header, IsHeader, header, Entry, IsEntry, entry, HasHeader, starts, HasDirectory, goes-on}
+use Rattle.wire.proofs.Reading.{Reads, reads-none, reads-join, reads-split, part-reads, reads-all, reads-span, reads-number}
+use Rattle.soundness.specs.FileGrammar.{Header, IsHeader, header, Entry, IsEntry, entry, HasHeader, starts}
+use Rattle.soundness.specs.FileGrammar.{HasDirectory, goes-on}
 use Rattle.soundness.specs.FileGrammar.{HasEntry, listed, IsSection, section}
 
 module _ (s : List ℕ) where

@@ -9,7 +9,7 @@ use Rattle.wire.proofs.Numbers.{big-endian-append}
 use Rattle.bundle.specs.declared.directory.Entry.{Entry as Read}
 use Rattle.bundle.specs.Header.{sectionCount, directoryOffset}
 use Rattle.bundle.specs.Directory.{entryAt, entriesFrom, entries, digestOf}
-use Rattle.soundness.specs.FileGrammar.{Header, HasHeader, Entry, HasDirectory, OccursAgain}
+use Rattle.soundness.specs.FileGrammar.{Header, Entry, HasDirectory, OccursAgain}
 use Rattle.soundness.specs.FileMeaning.{BigEndian, HeaderExactly, OneHeader, ReadsHeader, DirectoryExactly, OneDirectory}
 use Rattle.soundness.specs.FileMeaning.{ReadsDirectory, SectionExactly, OneSection, ReadsSection}
 use Rattle.soundness.proofs.FileFormat.{readHeader, readEntry, readEntries, readDirectory, one-header, has-header}

@@ -1,71 +1,28 @@
 -- The rows 1 to 11 hold exactly where their numbers apply, where no row before them holds.
-use Prim.Native.Nat.{ℕ, _+_, _*_, _%_, _≤_, _<_}
-use mathlib.Core.Path.{_≡_, refl, sym, ap, subst, _∙_}
-use mathlib.Core.List.{List, [], _∷_}
-use mathlib.Core.Bool.{Bool, true, false, cond}
-use mathlib.Core.Logic.{_↔_, Iff·trans, _⊎_, inl, inr, ⊎-elim}
+use Prim.Native.Nat.{ℕ, _+_, _*_, _%_, _≤_}
+use mathlib.Core.Path.{_≡_, subst}
+use mathlib.Core.List.{List}
+use mathlib.Core.Bool.{true}
+use mathlib.Core.Logic.{_↔_, inl, inr, ⊎-elim}
 use native.Mathlib.Omega.{arith}
 use native.Mathlib.Decide.{ℕ-discrete, decLe, decLt, map-dec}
-use borrow.Author.Tests.{eqb-true, eqb-false, eq-eqb, ne-eqb}
-use lib.Dec.{eqb, ltb}
-use lib.ListN.{length, take}
+use lib.ListN.{length}
 use Rattle.wire.specs.Wire.{span, ascii}
-use Rattle.wire.specs.Relations.{Among}
-use Rattle.wire.proofs.Bytes.{not-both}
-use Rattle.wire.proofs.Spans.{span-in}
-use Rattle.wire.proofs.Some.{any-none, any-more}
-use Rattle.wire.proofs.Tests.{below-exactly, equal-exactly, not-exactly}
 use Rattle.sha256_block.specs.Fips180.{sha256}
 use Rattle.sizes.specs.Sizes.{fileSize, sectionsSize}
-use Rattle.bundle.specs.declared.directory.Entry.{Entry as Read}
 use Rattle.bundle.specs.declared.directory.Fault.the-variants.{Critical, Coded, Outside, Altered}
-use Rattle.bundle.specs.Header.{sectionCount, directoryOffset, tooLong, tooShort, otherMagic, otherMajor, noDirectory}
-use Rattle.bundle.specs.Directory.{entryAt, entries, known, sectionOf, digestOf, someFaulty, occurrences, repeated, missing}
+use Rattle.bundle.specs.Header.{tooLong, tooShort, otherMagic, otherMajor, noDirectory}
+use Rattle.bundle.specs.Directory.{entries, someFaulty, occurrences, repeated, missing}
 use Rattle.bundle.specs.Checks.{headerChecks, directoryChecks}
-use Rattle.bundle.proofs.HeaderLaws.{most-exactly, least-exactly, magic-exactly, directory-exactly}
+use Rattle.bundle.proofs.HeaderLaws.{most-exactly, least-exactly}
 use Rattle.bundle.proofs.Rows.{Clear}
-use Rattle.soundness.specs.FileGrammar.{Header, HasHeader, Entry, HasDirectory, listed, IsSection, Known, Occurs, OccursAgain}
-use Rattle.soundness.specs.Applies.{
-  Applies,
-  over,
-  under,
-  magic,
-  major,
-  sections,
-  directory-offset,
-  directory-end,
-  critical,
-  compression,
-  algorithm,
-  outside,
-  again,
-  missing as lost,
-  digest,
-}
-use Rattle.soundness.proofs.FileFormat.{
-  readHeader,
-  readEntry,
-  readDirectory,
-  one-header,
-  has-header,
-  one-directory,
-  has-directory,
-  one-section,
-  has-section,
-  of-directory,
-  entry-read,
-}
-use Rattle.soundness.proofs.Decides.{
-  dec-same,
-  dec-both,
-  dec-either,
-  dec-where,
-  not-both-so,
-  not-within,
-  not-where,
-  not-each,
-  row-exactly,
-}
+use Rattle.soundness.specs.FileGrammar.{Header, HasHeader, Entry, HasDirectory, listed, Occurs, OccursAgain}
+use Rattle.soundness.specs.Applies.{Applies, over, under, magic, major, sections, directory-offset, directory-end}
+use Rattle.soundness.specs.Applies.{critical, compression, algorithm, outside, again, missing as lost, digest}
+use Rattle.soundness.proofs.FileFormat.{readHeader, readDirectory, one-header, has-header, one-directory}
+use Rattle.soundness.proofs.FileFormat.{has-directory, one-section, has-section, of-directory, entry-read}
+use Rattle.soundness.proofs.Decides.{dec-same, dec-both, dec-where, not-both-so, not-within, not-where, not-each}
+use Rattle.soundness.proofs.Decides.{row-exactly}
 use Rattle.soundness.proofs.Directory.{Directory, magic-fine, major-fine, directory-fine}
 use Rattle.soundness.proofs.Directory.{Optional, Plain, Inside, Digested, All, dec-known}
 use Rattle.soundness.proofs.Directory.{optional-fine, plain-fine, inside-fine, digest-fine, again-fine, there-fine}

@@ -1,14 +1,13 @@
 -- The entries that the checks read, and those that the grammar reads: the same, but that the first have no version and name their
 -- digest by its place.
 use Prim.Native.Nat.{ℕ, zero, suc, _+_, _≤_, _<_}
-use mathlib.Core.Path.{_≡_, refl, sym, ap, _∙_}
+use mathlib.Core.Path.{_≡_, refl}
 use mathlib.Core.List.{List, [], _∷_}
 use mathlib.Core.Bool.{Bool, true, false, cond}
 use mathlib.Core.Logic.{_↔_}
 use native.Mathlib.Omega.{arith}
-use borrow.Author.Tests.{eqb-true, eqb-false, eq-eqb, ne-eqb}
+use borrow.Author.Tests.{eqb-true, eq-eqb}
 use lib.Dec.{eqb}
-use lib.ListN.{length}
 use Rattle.wire.specs.Wire.{span}
 use Rattle.wire.specs.Relations.{Among, here, there}
 use Rattle.bundle.specs.declared.directory.Entry.{Entry as Read}

@@ -1,9 +1,9 @@
 -- The rows 12 to 20 hold exactly where their numbers apply, where no row before them holds.
-use Prim.Native.Nat.{ℕ, _≤_, _<_}
-use mathlib.Core.Path.{_≡_, refl, sym, ap, subst, _∙_}
+use Prim.Native.Nat.{ℕ, _≤_}
+use mathlib.Core.Path.{_≡_, refl, sym, subst, _∙_}
 use mathlib.Core.List.{List, [], _∷_}
-use mathlib.Core.Bool.{Bool, true, false, not}
-use mathlib.Core.Logic.{_↔_, _⊎_, ⊎-elim}
+use mathlib.Core.Bool.{true, not}
+use mathlib.Core.Logic.{_↔_, ⊎-elim}
 use native.Mathlib.Omega.{arith}
 use native.Mathlib.Decide.{ℕ-discrete, decLe, map-dec}
 use borrow.Author.Tests.{not-false}
@@ -11,10 +11,10 @@ use lib.ListN.{length}
 use Rattle.wire.specs.Relations.{Among, Distinct}
 use Rattle.wire.proofs.Tests.{not-exactly}
 use Rattle.sizes.specs.Sizes.{nameSize}
-use Rattle.manifest.specs.Content.{Root, Export, names}
+use Rattle.manifest.specs.Content.{Root, Export}
 use Rattle.manifest.specs.Judged.{Wanted, exactly, anyText, abiName, nineStrings, malformed, unsupported, misnamed}
 use Rattle.nodes.specs.declared.faults.Fault.the-variants.{Hash, Twice, Child}
-use Rattle.nodes.specs.Records.{Node, children, nodeHash, hashes, shaped, nodesOf, someFaulty}
+use Rattle.nodes.specs.Records.{Node, children, nodeHash, hashes, shaped, someFaulty}
 use Rattle.nodes.specs.Links.{circular}
 use Rattle.bundle.specs.References.{unresolved}
 use Rattle.bundle.specs.Checks.{manifestChecks, nodeChecks}
@@ -34,16 +34,7 @@ use Rattle.soundness.proofs.ManifestStrings.{Agree, same, any, agree-ni
 use Rattle.soundness.proofs.NodesMeaning.{shaped-exactly as nodes-exactly, reads-nodes, hashed-exactly}
 use Rattle.soundness.proofs.NodesMeaning.{distinct-exactly, closed-exactly, circular-exactly}
 use Rattle.soundness.proofs.References.{resolved-exactly}
-use Rattle.soundness.proofs.Decides.{
-  dec-same,
-  dec-among,
-  dec-both,
-  not-both-so,
-  not-within,
-  not-each,
-  dec-each,
-  row-exactly,
-}
+use Rattle.soundness.proofs.Decides.{dec-same, dec-among, dec-both, not-within, not-each, dec-each, row-exactly}
 use Rattle.soundness.proofs.NodesHashes.{payload-children, node-payload}
 use Rattle.soundness.proofs.Smallest.{Means}
 

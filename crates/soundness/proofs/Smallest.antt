@@ -1,5 +1,5 @@
 -- A table of refusals whose rows mean that their numbers apply answers the smallest number that applies.
-use Prim.Native.Nat.{ℕ, suc, _+_, _≤_, _<_}
+use Prim.Native.Nat.{ℕ, _+_, _≤_, _<_}
 use mathlib.Core.Path.{_≡_, refl, sym, subst, _∙_}
 use mathlib.Core.List.{List, [], _∷_, _++_}
 use mathlib.Core.Bool.{Bool, true, false}
@@ -22,17 +22,6 @@ Means A (c ∷ cs) = ((c .holds ≡ true) ↔ A (c .number)) × (c .holds ≡ fa
 above : {n : ℕ} {c : Check} {cs : List Check} → Ascends n cs → Among c cs → n < c .number
 above a here = a .0
 above a (there m) = omega (arith, a .0, above (a .1) m)
-
--- there is one smallest number
-pub one-smallest : {A : ℕ → Type 0} {n m : ℕ} → Smallest A n → Smallest A m → n ≡ m
-one-smallest {n = n} {m = m} l k =
-    elim (decLt n m) [
-      | yes h ↦ absurd (k .smallest n h (l .applies))
-      | no h ↦ elim (decLt m n) [
-        | yes g ↦ absurd (l .smallest m g (k .applies))
-        | no g ↦ omega (arith, h, g)
-      ]
-    ]
 
 -- where two things apply alike, the smallest number is the same
 smallest-to : {A B : ℕ → Type 0} {n : ℕ} → ((m : ℕ) → A m ↔ B m) → Smallest A n → Smallest B n

@@ -7,7 +7,7 @@ use mathlib.Core.List.{List, [], _∷_}
 use lib.ListN.{length}
 use Rattle.wire.specs.Wire.{ascii}
 use Rattle.wire.specs.Relations.{Among, Distinct}
-use Rattle.manifest.specs.Content.{Root, Export, names}
+use Rattle.manifest.specs.Content.{Export, names}
 use Rattle.manifest.specs.Judged.{malformed, unsupported, misnamed, rootsOf, exportsOf}
 use Rattle.soundness.specs.ManifestGrammar.{Contents, IsManifest}
 
