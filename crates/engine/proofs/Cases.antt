@@ -6,10 +6,16 @@ use Rattle.table.specs.Frames.{frameRoom, recordAt, putRecord, frameAt, putFram
 use Rattle.engine.specs.Rules.{onArgument, onFork, onFunction, rule}
 use Rattle.engine.specs.Step.{meetFrame, meet, carry, step}
 use Rattle.engine.specs.Run.{drive, admitAt, admit, start, runTail, run}
-use Rattle.engine.specs.Cases.{CasesHold}
+use Rattle.engine.specs.Cases.{CasesHold, AnswersHold}
 
 pub cases-hold : CasesHold
 unfolding room place firstAt secondAt putWords nodeAt putNode slotSound sound
     frameRoom recordAt putRecord frameAt putFrame dropFrame cleared
     onArgument onFork onFunction rule meetFrame meet carry step drive admitAt admit start runTail run
 cases-hold = refl
+
+pub answers-hold : AnswersHold
+unfolding room place firstAt secondAt putWords nodeAt putNode slotSound sound
+    frameRoom recordAt putRecord frameAt putFrame dropFrame cleared
+    onArgument onFork onFunction rule meetFrame meet carry step drive admitAt admit start runTail run
+answers-hold = (refl, refl)

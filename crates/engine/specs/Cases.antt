@@ -4,6 +4,8 @@ use mathlib.Core.Path.{_≡_}
 use mathlib.Core.List.{List, [], _∷_, map}
 use lib.ListN.{replicate}
 use lib.IntN.{ℤ, pos, negsuc}
+use Rattle.engine.specs.declared.RunAnswer.{RunAnswer}
+use Rattle.engine.specs.declared.RunAnswer.the-variants.{Done, Stopped}
 use Rattle.engine.specs.Run.{Ran, ran, run}
 use Rattle.engine.specs.Answer.{Numbers, numbers}
 
@@ -137,3 +139,14 @@ cases =
 
 abbrev pub CasesHold : Type 0
 CasesHold = map given cases ≡ map wanted cases
+
+-- two of them by the answer itself: a stop and a done run, no two numbers of it alike
+abbrev pub answerOf : Ran → RunAnswer
+answerOf (ran w j a) = a
+
+abbrev pub AnswersHold : Type 0
+AnswersHold =
+    -- D to D with 3 free slots: stop 32, f is L and x is D, 7 steps, 9 used slots, 2 jobs
+    (answerOf (run (table (replicate 6 9)) (pos 2) (pos 5) (pos 5) 6 100 (replicate 6 8)) ≡ Stopped 32 (pos 0) (pos 5) 7 9 2) ×
+    -- L to L: the new slot, 1 step, 7 used slots
+    (answerOf (run (table (replicate 3 9)) (pos 2) (pos 0) (pos 0) 6 100 (replicate 2 8)) ≡ Done (pos 6) 1 7)
