@@ -173,6 +173,82 @@ static void run_row(const struct workload *w)
     print_ratio(r, aim);
 }
 
+/* ---- Runs in parts */
+
+/* A run and carry-ons, each with the same fuel, until it ends otherwise than for want of fuel. */
+struct parts {
+    const struct workload *workload;
+    uint32_t fuel;
+};
+
+static void archive_in_parts(const struct parts *p, uint32_t a[ARBORICX_RUN_ANSWER])
+{
+    const struct workload *w = p->workload;
+    arboricx_run(w->words, WORKLOAD_WORDS, 0, w->f, w->x, w->used, p->fuel, w->jobs, w->jobs_len, a);
+    while (a[ARBORICX_RUN_NUMBER] == ARBORICX_OUT_OF_FUEL)
+        arboricx_carry_on(w->words, WORKLOAD_WORDS, 0, (int32_t)a[ARBORICX_RUN_F], (int32_t)a[ARBORICX_RUN_X],
+                          a[ARBORICX_RUN_USED], a[ARBORICX_RUN_JOBS], a[ARBORICX_RUN_STEPS], p->fuel, w->jobs,
+                          w->jobs_len, a);
+}
+
+/* With the same tests before each part, and the job table cleared before the first. */
+static void c_in_parts(const struct parts *p, uint32_t a[ARBORICX_RUN_ANSWER])
+{
+    const struct workload *w = p->workload;
+    if (!plain_sound(w->words, w->used)) disagree(w->name);
+    memset(w->jobs, 0, w->jobs_len * sizeof *w->jobs);
+    plain_run(w->words, WORKLOAD_WORDS, 0, w->f, w->x, w->used, p->fuel, w->jobs, w->jobs_len, a);
+    while (a[ARBORICX_RUN_NUMBER] == ARBORICX_OUT_OF_FUEL) {
+        if (!plain_sound(w->words, a[ARBORICX_RUN_USED])) disagree(w->name);
+        if (!plain_jobs_sound(w->jobs, w->jobs_len, a[ARBORICX_RUN_JOBS], a[ARBORICX_RUN_USED])) disagree(w->name);
+        plain_carry_on(w->words, WORKLOAD_WORDS, 0, (int32_t)a[ARBORICX_RUN_F], (int32_t)a[ARBORICX_RUN_X],
+                       a[ARBORICX_RUN_USED], a[ARBORICX_RUN_JOBS], a[ARBORICX_RUN_STEPS], p->fuel, w->jobs,
+                       w->jobs_len, a);
+    }
+}
+
+static void archive_parts(const void *input)
+{
+    uint32_t answer[ARBORICX_RUN_ANSWER];
+    archive_in_parts(input, answer);
+}
+
+static void c_parts(const void *input)
+{
+    uint32_t answer[ARBORICX_RUN_ANSWER];
+    c_in_parts(input, answer);
+}
+
+/* Both sides in parts come to what one run comes to: the same answer, the same words of both tables. */
+static void compare_parts(const struct parts *p, uint32_t answer[ARBORICX_RUN_ANSWER])
+{
+    static uint32_t words[WORKLOAD_WORDS], jobs[JOB_WORDS];
+    static void (*const sides[])(const struct parts *, uint32_t *) = {archive_in_parts, c_in_parts};
+    const struct workload *w = p->workload;
+    uint32_t whole[ARBORICX_RUN_ANSWER];
+    compare_runs(w, whole);
+    memcpy(words, w->words, sizeof words);
+    memcpy(jobs, w->jobs, w->jobs_len * sizeof *jobs);
+    for (int i = 0; i < 2; i++) {
+        clear_unused(w);
+        sides[i](p, answer);
+        if (memcmp(answer, whole, sizeof whole) != 0) disagree(w->name);
+        if (memcmp(words, w->words, sizeof words) != 0) disagree(w->name);
+        if (memcmp(jobs, w->jobs, w->jobs_len * sizeof *jobs) != 0) disagree(w->name);
+    }
+}
+
+static void parts_row(struct parts p)
+{
+    uint32_t answer[ARBORICX_RUN_ANSWER];
+    compare_parts(&p, answer);
+    const double steps = answer[ARBORICX_RUN_STEPS];
+    const struct race r = race(archive_parts, c_parts, &p, 1);
+    printf("| run, %s, in parts of %u steps |", p.workload->name, (unsigned)p.fuel);
+    printf(" %.1f million steps/s | %.1f million steps/s |", steps / r.archive / 1e6, steps / r.plain / 1e6);
+    print_ratio(r, 0);
+}
+
 /* ---- The check of the used slots that a run begins with */
 
 /* Part of a table that is filled to the end; a run with no fuel and no job places does little but the check. */
@@ -216,6 +292,58 @@ static void entry_rows(void)
         words[ARBORICX_SLOT_WORDS * i + 1] = i % 2 ? i / 2 + 1 : 0;
     }
     for (size_t i = 0; i < sizeof counts / sizeof *counts; i++) entry_row((struct entry){words, counts[i], jobs});
+}
+
+/* ---- The check of the waiting jobs that a carry-on adds */
+
+/* A carry-on with no fuel does little but the checks. */
+struct queue {
+    uint32_t *words;
+    uint32_t used;
+    uint32_t *jobs;
+    size_t jobs_len;
+    uint32_t waiting;
+};
+
+static void archive_queue(const void *input)
+{
+    uint32_t answer[ARBORICX_RUN_ANSWER];
+    const struct queue *q = input;
+    arboricx_carry_on(q->words, WORKLOAD_WORDS, 0, 0, 0, q->used, q->waiting, 0, 0, q->jobs, q->jobs_len, answer);
+}
+
+static void c_queue(const void *input)
+{
+    const struct queue *q = input;
+    if (!plain_sound(q->words, q->used)) disagree("used slots");
+    if (!plain_jobs_sound(q->jobs, q->jobs_len, q->waiting, q->used)) disagree("waiting jobs");
+}
+
+static void queue_row(struct queue q)
+{
+    uint32_t answer[ARBORICX_RUN_ANSWER];
+    arboricx_carry_on(q.words, WORKLOAD_WORDS, 0, 0, 0, q.used, q.waiting, 0, 0, q.jobs, q.jobs_len, answer);
+    if (answer[ARBORICX_RUN_NUMBER] != ARBORICX_OUT_OF_FUEL) disagree("waiting jobs");
+    c_queue(&q);
+    const struct race r = race(archive_queue, c_queue, &q, 2000000 / ((int)q.jobs_len + 100));
+    printf("| carry-on without fuel: check of %u used slots, %u waiting jobs, %zu words above |", (unsigned)q.used,
+           (unsigned)q.waiting, q.jobs_len - ARBORICX_JOB_WORDS * (size_t)q.waiting);
+    printf(" %.1f ns | %.1f ns |", 1e9 * r.archive, 1e9 * r.plain);
+    print_ratio(r, 0);
+}
+
+static void queue_rows(void)
+{
+    static uint32_t words[WORKLOAD_WORDS] = {0, 0, 1, 0}, jobs[JOB_WORDS]; /* leaf and stem leaf */
+    queue_row((struct queue){words, 2, jobs, 0, 0});
+    queue_row((struct queue){words, 2, jobs, JOB_WORDS, 0});
+    for (size_t i = 0; i < JOB_WORDS; i += ARBORICX_JOB_WORDS) { /* the three kinds of jobs by turns */
+        jobs[i] = (uint32_t)i / ARBORICX_JOB_WORDS % 3 + 1;
+        jobs[i + 1] = 1;
+        jobs[i + 2] = jobs[i] == 1 ? 1 : 0;
+    }
+    queue_row((struct queue){words, 2, jobs, ARBORICX_JOB_WORDS * 1000, 1000});
+    queue_row((struct queue){words, 2, jobs, JOB_WORDS, ARBORICX_MAX_JOBS});
 }
 
 /* ---- SHA-256 */
@@ -300,6 +428,7 @@ static void print_machine(void)
 int main(void)
 {
     static const uint32_t node_counts[BUNDLES] = {1, 64, ARBORICX_MAX_NODES};
+    static const uint32_t part_fuels[WORKLOADS] = {1000, 1000, 100000};
     make_workloads(workloads);
     for (int i = 0; i < BUNDLES; i++) make_bundle(&bundles[i], node_counts[i]);
     print_machine();
@@ -308,6 +437,8 @@ int main(void)
     sha256_row();
     for (int i = 0; i < BUNDLES; i++) load_row(&bundles[i]);
     entry_rows();
+    queue_rows();
+    for (int i = 0; i < WORKLOADS; i++) parts_row((struct parts){&workloads[i], part_fuels[i]});
     print_stack_rows(bundles, BUNDLES, workloads);
     return 0;
 }

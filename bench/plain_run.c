@@ -44,14 +44,16 @@ static inline uint32_t *meet(uint32_t *job, size_t t, size_t *f, size_t *x)
     return job - 3;
 }
 
-/* One loop for all seven rules, which keeps its state in registers. */
-uint32_t plain_run(uint32_t *words, size_t words_len, int32_t base, int32_t f_slot, int32_t x_slot, uint32_t used_slots,
-                   uint32_t fuel, uint32_t *jobs, size_t jobs_len, uint32_t answer[ARBORICX_RUN_ANSWER])
+/* One loop for all seven rules, which keeps its state in registers. Each of the two calls has a copy of its own. */
+__attribute__((always_inline))
+static inline uint32_t drive(uint32_t *words, size_t words_len, int32_t base, int32_t f_slot, int32_t x_slot,
+                             uint32_t used_slots, uint32_t waiting, uint32_t steps, uint32_t fuel, uint32_t *jobs,
+                             size_t jobs_len, uint32_t *answer)
 {
     uint32_t *const slots = words + base;
     const size_t room = at_most((words_len - (size_t)base) / ARBORICX_SLOT_WORDS, ARBORICX_MAX_SLOTS);
     uint32_t *const end = jobs + ARBORICX_JOB_WORDS * at_most(jobs_len / ARBORICX_JOB_WORDS, ARBORICX_MAX_JOBS);
-    uint32_t *job = jobs;
+    uint32_t *job = jobs + ARBORICX_JOB_WORDS * (size_t)waiting;
     size_t f = (size_t)f_slot, x = (size_t)x_slot, used = used_slots, t;
     uint32_t left = fuel, number = ARBORICX_OUT_OF_FUEL;
 
@@ -83,10 +85,23 @@ uint32_t plain_run(uint32_t *words, size_t words_len, int32_t base, int32_t f_sl
             x = (size_t)slots[a] - 1;
             continue;
         }
-        if (job == jobs) return tell(answer, ARBORICX_OK, t, 0, fuel - left + 1, used, 0);
+        if (job == jobs) return tell(answer, ARBORICX_OK, t, 0, steps + fuel - left + 1, used, 0);
         job = meet(job, t, &f, &x);
     }
-    return tell(answer, number, f, x, fuel - left, used, (size_t)(job - jobs) / ARBORICX_JOB_WORDS);
+    return tell(answer, number, f, x, steps + fuel - left, used, (size_t)(job - jobs) / ARBORICX_JOB_WORDS);
+}
+
+uint32_t plain_run(uint32_t *words, size_t words_len, int32_t base, int32_t f, int32_t x, uint32_t used, uint32_t fuel,
+                   uint32_t *jobs, size_t jobs_len, uint32_t answer[ARBORICX_RUN_ANSWER])
+{
+    return drive(words, words_len, base, f, x, used, 0, 0, fuel, jobs, jobs_len, answer);
+}
+
+uint32_t plain_carry_on(uint32_t *words, size_t words_len, int32_t base, int32_t f, int32_t x, uint32_t used,
+                        uint32_t waiting, uint32_t steps, uint32_t fuel, uint32_t *jobs, size_t jobs_len,
+                        uint32_t answer[ARBORICX_RUN_ANSWER])
+{
+    return drive(words, words_len, base, f, x, used, waiting, steps, fuel, jobs, jobs_len, answer);
 }
 
 int plain_sound(const uint32_t *slots, uint32_t used)
@@ -94,6 +109,21 @@ int plain_sound(const uint32_t *slots, uint32_t used)
     if (slots[0] != 0 || slots[1] != 0) return 0;
     for (uint32_t i = 1; i < used; i++) {
         if (slots[2 * i] == 0 || slots[2 * i] > i || slots[2 * i + 1] > i) return 0;
+    }
+    return 1;
+}
+
+int plain_jobs_sound(const uint32_t *jobs, size_t jobs_len, uint32_t waiting, uint32_t used)
+{
+    const size_t above = ARBORICX_JOB_WORDS * (size_t)waiting;
+    if (waiting > at_most(jobs_len / ARBORICX_JOB_WORDS, ARBORICX_MAX_JOBS)) return 0;
+    for (size_t i = 0; i < above; i += ARBORICX_JOB_WORDS) {
+        const uint32_t tag = jobs[i], second = jobs[i + 1], third = jobs[i + 2];
+        if (tag < 1 || tag > 3 || second >= used) return 0;
+        if (tag == 1 ? third >= used : third != 0) return 0;
+    }
+    for (size_t i = above; i < jobs_len; i++) {
+        if (jobs[i] != 0) return 0;
     }
     return 1;
 }

@@ -23,6 +23,8 @@ struct call {
     const struct workload *workload;
     uint32_t (*load)(const uint8_t *, size_t, uint32_t *, size_t, int32_t, uint32_t *, size_t, uint32_t *);
     uint32_t (*run)(uint32_t *, size_t, int32_t, int32_t, int32_t, uint32_t, uint32_t, uint32_t *, size_t, uint32_t *);
+    uint32_t (*carry_on)(uint32_t *, size_t, int32_t, int32_t, int32_t, uint32_t, uint32_t, uint32_t, uint32_t,
+                         uint32_t *, size_t, uint32_t *);
     uint32_t (*check)(const uint8_t *, size_t);
     uint32_t (*index)(const uint8_t *, size_t, const uint8_t *, size_t, uint32_t *);
     void (*name)(const uint8_t *, size_t, uint32_t, size_t *);
@@ -52,6 +54,14 @@ static uint32_t no_run(uint32_t *words, size_t words_len, int32_t base, int32_t 
     (void)words, (void)words_len, (void)base, (void)f, (void)x, (void)used, (void)fuel, (void)jobs, (void)jobs_len;
     (void)answer;
     return 0;
+}
+
+static uint32_t no_carry_on(uint32_t *words, size_t words_len, int32_t base, int32_t f, int32_t x, uint32_t used,
+                            uint32_t waiting, uint32_t steps, uint32_t fuel, uint32_t *jobs, size_t jobs_len,
+                            uint32_t *answer)
+{
+    (void)waiting, (void)steps;
+    return no_run(words, words_len, base, f, x, used, fuel, jobs, jobs_len, answer);
 }
 
 static uint32_t no_check(const uint8_t *file, size_t file_len)
@@ -89,7 +99,7 @@ static void *no_copy(void *to, const void *from, size_t len)
 }
 
 static const struct call empty = {
-    .load = no_load, .run = no_run, .check = no_check, .index = no_index,
+    .load = no_load, .run = no_run, .carry_on = no_carry_on, .check = no_check, .index = no_index,
     .name = no_name, .sha256 = no_sha256, .fill = no_fill, .copy = no_copy,
 };
 
@@ -106,6 +116,14 @@ static void enter_run(const struct call *c)
     static uint32_t answer[ARBORICX_RUN_ANSWER];
     const struct workload *w = c->workload;
     c->run(w->words, WORKLOAD_WORDS, 0, w->f, w->x, w->used, w->fuel, w->jobs, w->jobs_len, answer);
+}
+
+/* From the start, with no job waiting. */
+static void enter_carry_on(const struct call *c)
+{
+    static uint32_t answer[ARBORICX_RUN_ANSWER];
+    const struct workload *w = c->workload;
+    c->carry_on(w->words, WORKLOAD_WORDS, 0, w->f, w->x, w->used, 0, 0, w->fuel, w->jobs, w->jobs_len, answer);
 }
 
 static void enter_check(const struct call *c)
@@ -205,11 +223,28 @@ static void run_row(const struct workload *w)
         need(enter_run, (struct call){.workload = w, .run = plain_run}), RUN_AIM);
 }
 
+/* A job table that is not zero would be refused. */
+static size_t carry_on_need(const struct workload *w, struct call call)
+{
+    memset(w->jobs, 0, w->jobs_len * sizeof *w->jobs);
+    call.workload = w;
+    return need(enter_carry_on, call);
+}
+
+static void carry_on_row(const struct workload *w)
+{
+    char input[64];
+    snprintf(input, sizeof input, ", %s", w->name);
+    row("carry_on", input, carry_on_need(w, (struct call){.carry_on = arboricx_carry_on}),
+        carry_on_need(w, (struct call){.carry_on = plain_carry_on}), RUN_AIM);
+}
+
 void print_stack_rows(const struct bundle *bundles, size_t bundle_count, const struct workload workloads[WORKLOADS])
 {
     const struct bundle *const last = &bundles[bundle_count - 1];
     for (size_t i = 0; i < bundle_count; i++) load_row(&bundles[i]);
     for (int i = 0; i < WORKLOADS; i++) run_row(&workloads[i]);
+    for (int i = 0; i < WORKLOADS; i++) carry_on_row(&workloads[i]);
     row("check", "", need(enter_check, (struct call){.bundle = last, .check = arboricx_check}), 0, 0);
     row("export_index", "", need(enter_index, (struct call){.bundle = last, .index = arboricx_export_index}), 0, 0);
     row("export_name", "", need(enter_name, (struct call){.bundle = last, .name = arboricx_export_name}), 0, 0);

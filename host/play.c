@@ -1,9 +1,9 @@
 /*
- * Plays an opponent out of a bundle, as a receiver would: play BUNDLE [NAME [ALLOWANCE [MOVES]]]
+ * Plays an opponent out of a bundle, as a receiver would: play BUNDLE [NAME [ALLOWANCE [TURNS]]]
  *
- * The opponent is the export of that name, or the first one. A move applies it to the leaf with an allowance of steps;
- * what comes out is applied to the leaf at the next move. One whose move comes out as the leaf has won. One that stops
- * for want of steps, slots or places for jobs has lost.
+ * The opponent is the export of that name, or the first one. A move applies it to the leaf; what comes out is applied to
+ * the leaf at the next move. A turn has an allowance of steps, and a move that needs more thinks on at the next turn. One
+ * whose move comes out as the leaf has won. One that stops for want of slots or places for jobs has lost.
  *
  * The words before the base stand for the receiver's own. They are filled before and looked at after every call.
  */
@@ -108,25 +108,38 @@ static void print_tree(uint32_t slot, int depth)
     }
 }
 
-/* One move: the opponent in slot f is applied to the leaf. Whether it goes on; *f and *used are then the next move's. */
-static int move(uint32_t turn, uint32_t *f, uint32_t *used, uint32_t allowance)
+/* The call of a turn. What the last one answered is all that it needs: it thinks on, or makes the next move. */
+static uint32_t think(uint32_t last[ARBORICX_RUN_ANSWER], uint32_t allowance)
 {
-    uint32_t answer[ARBORICX_RUN_ANSWER];
-    const uint32_t number = arboricx_run(words, sizeof words / sizeof *words, BASE, (int32_t)*f, LEAF, *used, allowance,
-                                         jobs, sizeof jobs / sizeof *jobs, answer);
-    if (number != ARBORICX_OK && number < ARBORICX_OUT_OF_FUEL) refuse("run", number);
-    guard("a run");
-    *used = answer[ARBORICX_RUN_USED];
-    printf("move %" PRIu32 ": ", turn);
-    if (number != ARBORICX_OK) {
-        printf("lost by %" PRIu32 " after %" PRIu32 " steps, %" PRIu32 " slots used, %" PRIu32 " jobs waiting\n", number,
-               answer[ARBORICX_RUN_STEPS], *used, answer[ARBORICX_RUN_JOBS]);
-        return 0;
-    }
-    *f = answer[ARBORICX_RUN_SLOT];
-    print_tree(*f, 5);
-    printf(", steps %" PRIu32 ", slots used %" PRIu32 "\n", answer[ARBORICX_RUN_STEPS], *used);
-    if (words[BASE + ARBORICX_SLOT_WORDS * *f] != 0) return 1;
+    const size_t words_len = sizeof words / sizeof *words, jobs_len = sizeof jobs / sizeof *jobs;
+    const int32_t f = (int32_t)last[ARBORICX_RUN_F], x = (int32_t)last[ARBORICX_RUN_X];
+    const uint32_t used = last[ARBORICX_RUN_USED];
+    if (last[ARBORICX_RUN_NUMBER] == ARBORICX_OUT_OF_FUEL)
+        return arboricx_carry_on(words, words_len, BASE, f, x, used, last[ARBORICX_RUN_JOBS], last[ARBORICX_RUN_STEPS],
+                                 allowance, jobs, jobs_len, last);
+    return arboricx_run(words, words_len, BASE, f, LEAF, used, allowance, jobs, jobs_len, last);
+}
+
+/* The stops. Any other number but 0 is a refusal. */
+static int stopped(uint32_t number)
+{
+    return number >= ARBORICX_OUT_OF_FUEL && number <= ARBORICX_OUT_OF_JOBS;
+}
+
+/* Whether the play goes on after this turn. */
+static int take_turn(uint32_t turn, uint32_t last[ARBORICX_RUN_ANSWER], uint32_t allowance)
+{
+    const uint32_t number = think(last, allowance);
+    if (number != ARBORICX_OK && !stopped(number)) refuse("turn", number);
+    guard("a turn");
+    printf("turn %" PRIu32 ": ", turn);
+    if (number == ARBORICX_OK) print_tree(last[ARBORICX_RUN_SLOT], 5);
+    else if (number == ARBORICX_OUT_OF_FUEL) printf("thinks on");
+    else printf("lost by %" PRIu32, number);
+    printf(", steps %" PRIu32 ", slots used %" PRIu32 ", jobs waiting %" PRIu32 "\n", last[ARBORICX_RUN_STEPS],
+           last[ARBORICX_RUN_USED], last[ARBORICX_RUN_JOBS]);
+    if (number != ARBORICX_OK) return number == ARBORICX_OUT_OF_FUEL;
+    if (words[BASE + ARBORICX_SLOT_WORDS * last[ARBORICX_RUN_SLOT]] != 0) return 1;
     printf("won\n");
     return 0;
 }
@@ -134,17 +147,18 @@ static int move(uint32_t turn, uint32_t *f, uint32_t *used, uint32_t allowance)
 int main(int argc, char **argv)
 {
     if (argc < 2 || argc > 5) {
-        fprintf(stderr, "usage: %s BUNDLE [NAME [ALLOWANCE [MOVES]]]\n", argv[0]);
+        fprintf(stderr, "usage: %s BUNDLE [NAME [ALLOWANCE [TURNS]]]\n", argv[0]);
         return 2;
     }
     const uint32_t allowance = argc > 3 ? (uint32_t)strtoul(argv[3], NULL, 10) : 1000;
-    const uint32_t moves = argc > 4 ? (uint32_t)strtoul(argv[4], NULL, 10) : 20;
+    const uint32_t turns = argc > 4 ? (uint32_t)strtoul(argv[4], NULL, 10) : 20;
+    uint32_t last[ARBORICX_RUN_ANSWER] = {ARBORICX_OK};
     for (uint32_t i = 0; i < BASE; i++) words[i] = preference(i);
     read_file(argv[1]);
-    uint32_t used = load();
-    uint32_t f = pick(argc > 2 ? argv[2] : "");
-    printf(", %" PRIu32 " steps a move\n", allowance);
-    for (uint32_t turn = 1; turn <= moves && move(turn, &f, &used, allowance); turn++) continue;
+    last[ARBORICX_RUN_USED] = load();
+    last[ARBORICX_RUN_SLOT] = pick(argc > 2 ? argv[2] : "");
+    printf(", %" PRIu32 " steps a turn\n", allowance);
+    for (uint32_t turn = 1; turn <= turns && take_turn(turn, last, allowance); turn++) continue;
     printf("the %d words before the base are untouched\n", BASE);
     return 0;
 }

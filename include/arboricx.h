@@ -30,9 +30,9 @@
  * bundle; a run needs one more for each node that it makes.
  *
  * The used count says how many slots are used, from slot 0 on. The used slots are sound when slot 0 is (0, 0) and in each
- * later slot i the first word is 1 to i and the second 0 to i; else they are damaged. A load leaves sound slots, and so
- * does every run. A run takes any sound slots, whoever wrote them. Slot 0 is the leaf after every accepted load and
- * every run that was let start.
+ * later slot i the first word is 1 to i and the second 0 to i; else they are damaged. An accepted load leaves sound
+ * slots, and so does every run or carry-on that was let start. These take any sound slots, whoever wrote them. Slot 0 is
+ * then the leaf.
  *
  * The table `jobs` holds the jobs that wait when a run stops, three words to a job, oldest first:
  *
@@ -41,7 +41,17 @@
  *      3, w, 0    then w to the result
  *
  * Its room is a third of its words, rounded down, at most ARBORICX_MAX_JOBS. A run that is let start zeroes the whole
- * table first, however long it is, so that a table no longer than needed saves time.
+ * table first, however long it is, so that a table no longer than needed saves time. A carry-on takes the jobs as they
+ * stand. They are sound when they are no more than the room, each tag is 1 to 3, every slot they name is used, the third
+ * word is 0 under tags 2 and 3, and all words of the table above them are 0. A run or a carry-on that was let start
+ * leaves sound jobs.
+ *
+ * ---- A move that hits its limit
+ *
+ * A run that stops with 31 has spent its fuel. arboricx_carry_on goes on with it, next turn or next day: from the two
+ * tables as the stop left them, with the f, x, used count, jobs and steps that it answered. However the fuel is cut into
+ * parts, in the same tables and as long as each part but the last stops with 31, the tables and the answer are in the
+ * end those of one run with the sum, up to 4,294,967,295.
  *
  * ---- The seven rules
  *
@@ -73,7 +83,8 @@ extern "C" {
  * ---- The numbers
  *
  * 0 is success. A refusal answers the smallest number that applies, with every other number of the answer 0, and
- * changes no word of any table but `answer`. 31, 32 and 33 are no refusals: the run was let start, and stopped.
+ * changes no word of any table but `answer`. 31, 32 and 33 are no refusals: the run or the carry-on was let start, and
+ * stopped.
  */
 enum arboricx_number {
     ARBORICX_OK = 0,
@@ -102,15 +113,17 @@ enum arboricx_number {
     ARBORICX_HASH_UNRESOLVED = 20,   /* a root's or export's hash has no record */
     /* the tables and the slots */
     ARBORICX_NO_ROOM = 21,           /* base negative or past the end of the table; load: room below the node count;
-                                        run: used count 0 or above room */
+                                        run, carry-on: used count 0 or above room */
     ARBORICX_EXPORTS_TOO_SHORT = 22, /* export table shorter than the export count */
-    ARBORICX_NO_SLOT = 23,           /* run: a slot is negative or not below the used count */
-    ARBORICX_DAMAGED = 24,           /* run: the used slots are damaged */
+    ARBORICX_NO_SLOT = 23,           /* run, carry-on: a slot is negative or not below the used count */
+    ARBORICX_DAMAGED = 24,           /* run, carry-on: the used slots are damaged; carry-on: the jobs are not sound */
     ARBORICX_NO_EXPORT = 25,         /* no export of that name */
-    /* stops of a run */
+    /* stops of a run or a carry-on */
     ARBORICX_OUT_OF_FUEL = 31,       /* no fuel is left */
     ARBORICX_OUT_OF_SLOTS = 32,      /* the next step makes a node, and no slot is left */
-    ARBORICX_OUT_OF_JOBS = 33        /* the next step adds a job, and no place is left */
+    ARBORICX_OUT_OF_JOBS = 33,       /* the next step adds a job, and no place is left */
+    /* a refusal again */
+    ARBORICX_TOO_MANY_STEPS = 40     /* carry-on: the steps so far and the fuel are above 4,294,967,295 together */
 };
 
 /* ---- The sizes */
@@ -123,7 +136,7 @@ enum arboricx_number {
 #define ARBORICX_MAX_JOBS 65535  /* jobs that may wait, however long the job table is */
 #define ARBORICX_SLOT_WORDS 2    /* words of a slot */
 #define ARBORICX_JOB_WORDS 3     /* words of a job */
-#define ARBORICX_STACK 16384     /* bytes of stack that a call needs at most; a run needs under 1,024 */
+#define ARBORICX_STACK 16384     /* bytes of stack that a call needs at most; a run or a carry-on needs under 1,024 */
 
 /* ---- The words of each answer. All of them are written at every call. */
 
@@ -133,7 +146,7 @@ enum {
     ARBORICX_RUN_SLOT, /* done: the slot of the result */
     ARBORICX_RUN_F = ARBORICX_RUN_SLOT, /* stopped: the f still to be applied */
     ARBORICX_RUN_X, /* stopped: the x that it is to be applied to; done: 0 */
-    ARBORICX_RUN_STEPS,
+    ARBORICX_RUN_STEPS, /* of a carry-on: in total */
     ARBORICX_RUN_USED,
     ARBORICX_RUN_JOBS, /* stopped: how many jobs wait; done: 0 */
     ARBORICX_RUN_ANSWER
@@ -166,8 +179,8 @@ uint32_t arboricx_load(const uint8_t *file, size_t file_len,
 /*
  * Applies slot f to slot x, with fuel for so many steps: 21, 23 or 24; 31, 32 or 33; or 0.
  *
- * `used` is the count that the last run not refused answered, or before any such run the load's node count. It is
- * checked, as the used slots are: a table that was damaged meanwhile is refused.
+ * `used` is the count that the last run or carry-on not refused answered, or before any such call the load's node count.
+ * It is checked, as the used slots are: a table that was damaged meanwhile is refused.
  * 0: done. The answer is 0, the slot of the result, 0, the steps taken, the used count now, 0.
  * 31, 32, 33: stopped. The answer is the number, the f and the x still to be applied, the steps taken, the used count
  * now, and how many jobs wait in the job table.
@@ -176,12 +189,35 @@ uint32_t arboricx_load(const uint8_t *file, size_t file_len,
  * of each, with the same result and steps.
  * 21, 23, 24: refused. The answer is the number and zeros. No word of either table has changed.
  *
- * Slots in the answer are used slots, at most 65,534, so that they may be handed back as f and x.
+ * Slots in the answer are used slots, at most 65,534. A result may be the f or the x of a later run. The f and x of a
+ * stop are for arboricx_carry_on: a run of them would forget the jobs that wait.
  */
 uint32_t arboricx_run(uint32_t *words, size_t words_len, int32_t base,
                       int32_t f, int32_t x, uint32_t used, uint32_t fuel,
                       uint32_t *jobs, size_t jobs_len,
                       uint32_t answer[ARBORICX_RUN_ANSWER]);
+
+/*
+ * Goes on with a run that stopped, with fuel for so many steps more: 21, 23, 24 or 40; 31, 32 or 33; or 0.
+ *
+ * Both tables are as the stop left them; f, x, used, `waiting` and `steps` are the five numbers that it answered:
+ *
+ *      arboricx_carry_on(words, words_len, base, (int32_t)a[ARBORICX_RUN_F], (int32_t)a[ARBORICX_RUN_X],
+ *                        a[ARBORICX_RUN_USED], a[ARBORICX_RUN_JOBS], a[ARBORICX_RUN_STEPS], fuel, jobs, jobs_len, a);
+ *
+ * After other runs on the same words `used` is the count that the last of them answered, and the job table is the one
+ * that the stop left. All of it is checked, whoever wrote it. What a stop leaves, by 31, 32 or 33, of a run or of a
+ * carry-on, is refused with 40 at most. After 32 lend a longer word table, after 33 a longer job table, with the same
+ * words, and zeros after the jobs.
+ * 0, 31, 32, 33: the answer and both tables are as a run's, but that no job is zeroed first and that the steps are those
+ * in total. With no fuel it answers 31 and what it was handed. A carry-on that is done with some fuel, slots and job
+ * places is done with more of each, unless that is refused with 40.
+ * 21, 23, 24, 40: refused. The answer is the number and zeros. No word of either table has changed.
+ */
+uint32_t arboricx_carry_on(uint32_t *words, size_t words_len, int32_t base,
+                           int32_t f, int32_t x, uint32_t used, uint32_t waiting, uint32_t steps, uint32_t fuel,
+                           uint32_t *jobs, size_t jobs_len,
+                           uint32_t answer[ARBORICX_RUN_ANSWER]);
 
 /*
  * The index of the export with a name, which is any bytes; the empty name means the first export: 1 to 14, 25, or 0.

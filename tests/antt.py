@@ -19,7 +19,7 @@ CALLS = {
     "bundle/Checks": ["refusal"],
     "bundle/Exports": ["namePart", "nameCall", "indexCall"],
     "loader/Load": ["load"],
-    "engine/Run": ["run"],
+    "engine/Run": ["runFrom"],
 }
 
 

@@ -11,7 +11,7 @@
 #include <string.h>
 #include <unistd.h>
 
-enum { ARGUMENTS = 8, NUMBERS = 34, MOST_FILE = 98304, MOST_NAME = 2048, ANSWER_BYTES = 64 };
+enum { ARGUMENTS = 10, NUMBERS = 41, MOST_FILE = 98304, MOST_NAME = 2048, ANSWER_BYTES = 64 };
 
 /* ---- What is being done now, for reports */
 
@@ -223,7 +223,7 @@ static void compare_tables(const struct outcome *outcome, const char *table, con
 
 /* ---- How often each number was answered */
 
-enum counted { COUNT_CHECK, COUNT_LOAD, COUNT_INDEX, COUNT_RUN, COUNTED };
+enum counted { COUNT_CHECK, COUNT_LOAD, COUNT_INDEX, COUNT_RUN, COUNT_CARRY, COUNTED };
 
 static uint64_t tally[COUNTED][NUMBERS];
 static uint64_t names_found, names_empty;
@@ -252,9 +252,9 @@ static void count_run(const struct outcome *outcome)
 
 void print_numbers(void)
 {
-    printf("number      check       load      index        run\n");
+    printf("number      check       load      index        run      carry\n");
     for (unsigned i = 0; i < NUMBERS; i++) {
-        if (i > 25 && i < 31)
+        if ((i > 25 && i < 31) || (i > 33 && i < 40))
             continue;
         printf("%6u", i);
         for (unsigned counted = 0; counted < COUNTED; counted++)
@@ -391,13 +391,8 @@ uint32_t both_load(struct lent *words, int32_t base, struct lent *exports, uint3
     return count_number(COUNT_LOAD, &outcome);
 }
 
-uint32_t both_run(struct lent *words, const struct run *run, struct lent *jobs, uint32_t answer[6])
+static void run_arguments(const struct lent *words, const struct run *run, const struct lent *jobs)
 {
-    static uint32_t (*const runs[SIDES])(uint32_t *, size_t, int32_t, int32_t, int32_t, uint32_t, uint32_t, uint32_t *,
-                                         size_t, uint32_t *) = {arboricx_run, reference_run};
-    struct outcome outcome;
-
-    begin_call("run");
     argument("words_len", (int64_t)words->length);
     argument("closed", (int64_t)words->closed);
     argument("base", run->base);
@@ -406,6 +401,25 @@ uint32_t both_run(struct lent *words, const struct run *run, struct lent *jobs, 
     argument("used", run->used);
     argument("fuel", run->fuel);
     argument("jobs_len", (int64_t)jobs->length);
+}
+
+static void compare_run(const struct outcome *outcome, const struct lent *words, const struct lent *jobs,
+                        uint32_t answer[6])
+{
+    compare_outcome(outcome);
+    compare_tables(outcome, "word", words);
+    compare_tables(outcome, "job word", jobs);
+    give_words(answer, outcome);
+}
+
+uint32_t both_run(struct lent *words, const struct run *run, struct lent *jobs, uint32_t answer[6])
+{
+    static uint32_t (*const runs[SIDES])(uint32_t *, size_t, int32_t, int32_t, int32_t, uint32_t, uint32_t, uint32_t *,
+                                         size_t, uint32_t *) = {arboricx_run, reference_run};
+    struct outcome outcome;
+
+    begin_call("run");
+    run_arguments(words, run, jobs);
     for (unsigned side = 0; side < SIDES; side++) {
         uint32_t *lent = lend_answer(side, ARBORICX_RUN_ANSWER * sizeof *lent);
         on_side(side);
@@ -413,12 +427,32 @@ uint32_t both_run(struct lent *words, const struct run *run, struct lent *jobs, 
                                      jobs->words[side], jobs->length, lent);
         take_words(&outcome, side, number, lent, ARBORICX_RUN_ANSWER);
     }
-    compare_outcome(&outcome);
-    compare_tables(&outcome, "word", words);
-    compare_tables(&outcome, "job word", jobs);
-    give_words(answer, &outcome);
+    compare_run(&outcome, words, jobs, answer);
     count_run(&outcome);
     return count_number(COUNT_RUN, &outcome);
+}
+
+uint32_t both_carry_on(struct lent *words, const struct carry *carry, struct lent *jobs, uint32_t answer[6])
+{
+    static uint32_t (*const carries[SIDES])(uint32_t *, size_t, int32_t, int32_t, int32_t, uint32_t, uint32_t, uint32_t,
+                                            uint32_t, uint32_t *, size_t, uint32_t *) = {arboricx_carry_on,
+                                                                                         reference_carry_on};
+    const struct run *run = &carry->run;
+    struct outcome outcome;
+
+    begin_call("carry_on");
+    run_arguments(words, run, jobs);
+    argument("waiting", carry->waiting);
+    argument("steps", carry->steps);
+    for (unsigned side = 0; side < SIDES; side++) {
+        uint32_t *lent = lend_answer(side, ARBORICX_RUN_ANSWER * sizeof *lent);
+        on_side(side);
+        uint32_t number = carries[side](words->words[side], words->length, run->base, run->f, run->x, run->used,
+                                        carry->waiting, carry->steps, run->fuel, jobs->words[side], jobs->length, lent);
+        take_words(&outcome, side, number, lent, ARBORICX_RUN_ANSWER);
+    }
+    compare_run(&outcome, words, jobs, answer);
+    return count_number(COUNT_CARRY, &outcome);
 }
 
 uint32_t both_index(const uint8_t *name, size_t name_len, uint32_t answer[2])
@@ -505,7 +539,7 @@ uint64_t calls_made(void)
 
 void calls_prepare(const char *program)
 {
-    static const size_t most[TABLES] = {MOST_WORDS, MOST_EXPORTS, MOST_JOBS};
+    static const size_t most[TABLES] = {MOST_WORDS, MOST_EXPORTS, MOST_JOBS, MOST_JOBS};
     size_t below_base = (size_t)INT32_MAX * sizeof(uint32_t); /* address space only: it is never opened */
 
     now.program = program;

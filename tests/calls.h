@@ -18,7 +18,7 @@ struct lent {
     size_t length, closed;
 };
 
-enum table { TABLE_WORDS, TABLE_EXPORTS, TABLE_JOBS, TABLES };
+enum table { TABLE_WORDS, TABLE_EXPORTS, TABLE_JOBS, TABLE_OTHER_JOBS, TABLES };
 
 /* How long the tables of each kind may be, in words that are not closed. */
 enum { MOST_WORDS = 140000, MOST_EXPORTS = 1024, MOST_JOBS = 200704 };
@@ -52,6 +52,14 @@ struct run {
 };
 
 uint32_t both_run(struct lent *words, const struct run *run, struct lent *jobs, uint32_t answer[6]);
+
+/* Goes on with a stopped run: f, x, used, waiting and steps are the stop's. */
+struct carry {
+    struct run run;
+    uint32_t waiting, steps;
+};
+
+uint32_t both_carry_on(struct lent *words, const struct carry *carry, struct lent *jobs, uint32_t answer[6]);
 
 /* Reports what both sides agree on but ought not to answer. */
 void expect(const char *what, uint64_t got, uint64_t wanted);

@@ -1,8 +1,12 @@
-/* Cases whose answers are known: those of the paper and of the SHA-256 standard. Both sides have to give them. */
+/* Cases whose answers are known: those of the papers and of the SHA-256 standard, and carry-ons written out. Both sides have to give them. */
 #ifndef CASES_H
 #define CASES_H
 
 void check_paper_cases(void);
+
+/* Carry-ons at every edge, with all answers and words written out. */
+void check_carry_cases(void);
+
 void check_published_digests(void);
 
 /* Lengths above 32 bits: of files, names and tables. */

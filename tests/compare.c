@@ -1,5 +1,5 @@
 /*
- * Holds the archive against the reference, on generated bundles, tables and runs.
+ * Holds the archive against the reference, on generated bundles, tables, runs and carry-ons.
  *
  *     compare [--seed S] [--count N] [--first I] [--break K] [--zeros 1]
  *
@@ -13,6 +13,7 @@
 #include "calls.h"
 #include "cases.h"
 #include "dice.h"
+#include "parts.h"
 #include "plan.h"
 #include "reference.h"
 
@@ -21,7 +22,7 @@
 #include <stdlib.h>
 #include <string.h>
 
-enum { PROBE_WORDS = 4096, PROBE_FUEL = 60000, KNOWN_SLOTS = 64, DONE = 0, NO_FUEL = 31 };
+enum { PROBE_WORDS = 4096, PROBE_FUEL = 60000, KNOWN_SLOTS = 64, PLAYERS = 2, DONE = 0, NO_FUEL = 31, NO_PLACE = 33 };
 
 /* ---- Names */
 
@@ -257,7 +258,16 @@ static void check_placing(const struct bundle *bundle, const uint32_t *slots, ui
         }
 }
 
-/* ---- Lists of runs */
+/* ---- Lists of runs and carry-ons */
+
+/* A job table, and the numbers of the run that stopped with the jobs in it. */
+struct player {
+    enum table table;
+    struct lent jobs;
+    int32_t f, x;
+    uint32_t waiting, steps;
+    uint32_t number; /* 0: no run has stopped */
+};
 
 struct story {
     struct lent words;
@@ -265,6 +275,7 @@ struct story {
     uint32_t used, room;
     uint32_t known[KNOWN_SLOTS]; /* slots of exports and of results */
     uint32_t known_count;
+    struct player players[PLAYERS];
 };
 
 static void know(struct story *story, struct dice *dice, uint32_t slot)
@@ -281,6 +292,8 @@ static void begin_story(struct story *story, struct place place)
     story->base = place.base;
     story->room = room < 65535 ? (uint32_t)room : 65535;
     story->known_count = 0;
+    story->players[0] = (struct player){.table = TABLE_JOBS};
+    story->players[1] = (struct player){.table = TABLE_OTHER_JOBS};
 }
 
 static int32_t some_slot(const struct story *story, struct dice *dice)
@@ -310,23 +323,30 @@ static uint32_t some_used(const struct story *story, struct dice *dice)
 
 /*
  * Fuel without limit is given only where a trial of the reference ends by itself, so that each case ends soon. The
- * trial has its own copy of the words from the base on.
+ * trial has its own copy of the words from the base on and of the jobs.
  */
-static uint32_t fuel_without_limit(const struct story *story, const struct run *run, size_t jobs_len, struct dice *dice)
+static uint32_t fuel_without_limit(const struct story *story, const struct start *start, struct dice *dice)
 {
     static uint32_t words[PROBE_WORDS], jobs[PROBE_WORDS];
-    size_t open = story->words.length - (size_t)story->base;
-    uint32_t answer[6];
+    const struct run *run = &start->carry.run;
+    size_t open = story->words.length - (size_t)story->base, jobs_len = start->jobs->length;
+    uint32_t number, answer[6];
 
     if (open > PROBE_WORDS || jobs_len > PROBE_WORDS || run->base != story->base)
         return PROBE_FUEL;
     memcpy(words, story->words.words[REFERENCE] + story->base, open * sizeof words[0]);
-    if (reference_run(words, open, 0, run->f, run->x, run->used, PROBE_FUEL, jobs, jobs_len, answer) == NO_FUEL)
+    memcpy(jobs, start->jobs->words[REFERENCE], jobs_len * sizeof jobs[0]);
+    if (start->onward)
+        number = reference_carry_on(words, open, 0, run->f, run->x, run->used, start->carry.waiting, 0, PROBE_FUEL,
+                                    jobs, jobs_len, answer);
+    else
+        number = reference_run(words, open, 0, run->f, run->x, run->used, PROBE_FUEL, jobs, jobs_len, answer);
+    if (number == NO_FUEL)
         return PROBE_FUEL;
     return dice_once_in(dice, 2) ? UINT32_MAX : 0x80000000u + dice_below(dice, 0x7fffffff);
 }
 
-static uint32_t some_fuel(const struct story *story, const struct run *run, size_t jobs_len, struct dice *dice)
+static uint32_t some_fuel(const struct story *story, const struct start *start, struct dice *dice)
 {
     switch (dice_below(dice, 12)) {
     case 0:
@@ -344,7 +364,7 @@ static uint32_t some_fuel(const struct story *story, const struct run *run, size
         return dice_from(dice, 100, 5000);
     case 8:
     case 9:
-        return fuel_without_limit(story, run, jobs_len, dice);
+        return fuel_without_limit(story, start, dice);
     default:
         return dice_from(dice, 60, 400);
     }
@@ -395,43 +415,267 @@ static struct old_word damage_table(struct story *story, struct dice *dice)
     return old;
 }
 
-/* One run, which goes on with the table as the last one left it. Fuel 0 leaves the fuel to the dice. */
-static void play_run(struct story *story, struct dice *dice, size_t jobs_len, uint32_t fuel)
+static struct player *some_player(struct story *story, struct dice *dice)
 {
-    struct run run = {story->base, some_slot(story, dice), some_slot(story, dice), some_used(story, dice), fuel};
-    struct lent jobs;
-    uint32_t answer[6];
+    return &story->players[dice_below(dice, PLAYERS)];
+}
 
-    if (dice_once_in(dice, 60))
-        run.base = edge_place(dice, story->words.length).base;
-    if (run.base >= 0 && (size_t)run.base < story->words.closed)
-        run.base = story->base; /* closed words are not there from the base on */
-    if (fuel == 0)
-        run.fuel = some_fuel(story, &run, jobs_len, dice);
-    lend_table(&jobs, TABLE_JOBS, jobs_len, 0, dice);
-    uint32_t number = both_run(&story->words, &run, &jobs, answer);
-    if (number != DONE && number < NO_FUEL)
+/* A job table full of random words. */
+static void lend_jobs(struct player *player, struct dice *dice, size_t length)
+{
+    lend_table(&player->jobs, player->table, length, 0, dice);
+    player->number = DONE;
+}
+
+static int32_t some_base(const struct story *story, struct dice *dice)
+{
+    int32_t base = dice_once_in(dice, 60) ? edge_place(dice, story->words.length).base : story->base;
+
+    /* closed words are not there from the base on */
+    return base >= 0 && (size_t)base < story->words.closed ? story->base : base;
+}
+
+/* What a call leaves for the next ones; a refused one leaves all as it was. */
+static void remember(struct story *story, struct player *player, const uint32_t answer[6], struct dice *dice)
+{
+    uint32_t number = answer[0];
+
+    if (number != DONE && (number < NO_FUEL || number > NO_PLACE))
         return;
     story->used = answer[4];
     know(story, dice, answer[1]);
-    if (number != DONE)
-        know(story, dice, answer[2]);
+    player->number = number;
+    if (number == DONE)
+        return;
+    know(story, dice, answer[2]);
+    player->f = (int32_t)answer[1];
+    player->x = (int32_t)answer[2];
+    player->steps = answer[3];
+    player->waiting = answer[5];
 }
 
-static void play_runs(struct story *story, struct dice *dice, uint32_t runs)
+/* One run, which goes on with the table as the last call left it. Fuel 0 leaves the fuel to the dice. */
+static void play_run(struct story *story, struct dice *dice, size_t jobs_len, uint32_t fuel)
 {
-    for (uint32_t i = 0; i < runs; i++) {
+    struct player *player = some_player(story, dice);
+    struct run run = {some_base(story, dice), some_slot(story, dice), some_slot(story, dice), some_used(story, dice),
+                      fuel};
+    struct start start = {&story->words, &player->jobs, {run, 0, 0}, 0};
+    uint32_t answer[6];
+
+    if (player->number == DONE || !dice_once_in(dice, 6)) /* else the jobs of a stopped run are in the table */
+        lend_jobs(player, dice, jobs_len);
+    if (fuel == 0)
+        start.carry.run.fuel = some_fuel(story, &start, dice);
+    both_run(&story->words, &start.carry.run, &player->jobs, answer);
+    remember(story, player, answer, dice);
+}
+
+/* ---- Carry-ons */
+
+static void set_job_word(struct player *player, size_t at, uint32_t value)
+{
+    for (unsigned side = 0; side < SIDES; side++)
+        player->jobs.words[side][at] = value;
+}
+
+static uint32_t job_room(const struct player *player)
+{
+    return player->jobs.length / 3 < 65535 ? (uint32_t)(player->jobs.length / 3) : 65535;
+}
+
+static void clear_above(struct player *player)
+{
+    size_t above = 3 * (size_t)player->waiting;
+
+    for (unsigned side = 0; side < SIDES; side++)
+        memset(player->jobs.words[side] + above, 0, (player->jobs.length - above) * sizeof(uint32_t));
+}
+
+/* A stop that never was: some jobs that are sound over the used slots. */
+static void make_up_stop(struct story *story, struct player *player, struct dice *dice, size_t jobs_len)
+{
+    uint32_t slots = story->used > 0 ? story->used : 1;
+
+    lend_jobs(player, dice, jobs_len);
+    player->number = NO_FUEL;
+    player->f = some_slot(story, dice);
+    player->x = some_slot(story, dice);
+    player->steps = dice_once_in(dice, 4) ? dice_word(dice) : dice_below(dice, 1000);
+    player->waiting = dice_once_in(dice, 4) ? job_room(player) : dice_below(dice, job_room(player) + 1);
+    for (size_t at = 0; at < 3 * (size_t)player->waiting; at += 3) {
+        uint32_t tag = dice_from(dice, 1, 3);
+        set_job_word(player, at, tag);
+        set_job_word(player, at + 1, dice_below(dice, slots));
+        set_job_word(player, at + 2, tag == 1 ? dice_below(dice, slots) : 0);
+    }
+    clear_above(player);
+}
+
+/* The jobs of a stop move to a table of another length, if they fit. */
+static void move_jobs(struct player *player, struct dice *dice, size_t jobs_len)
+{
+    static uint32_t moved[MOST_JOBS];
+    size_t words = 3 * (size_t)player->waiting;
+    uint32_t number = player->number;
+
+    if (words > jobs_len)
+        return;
+    memcpy(moved, player->jobs.words[ARCHIVE], words * sizeof moved[0]);
+    lend_jobs(player, dice, jobs_len);
+    player->number = number;
+    for (unsigned side = 0; side < SIDES; side++)
+        memcpy(player->jobs.words[side], moved, words * sizeof moved[0]);
+    clear_above(player);
+}
+
+/* Where a word is changed: in the jobs, just above them, anywhere above them, or at the end of the table. */
+static size_t some_job_word(const struct player *player, struct dice *dice)
+{
+    size_t length = player->jobs.length, above = 3 * (size_t)player->waiting;
+    uint32_t kind = dice_below(dice, 8);
+
+    if (above > 0 && (kind < 4 || above == length))
+        return dice_once_in(dice, 2) ? above - 1 - dice_below(dice, 3) : dice_below(dice, (uint32_t)above);
+    if (kind == 4)
+        return length - 1;
+    return kind == 5 ? above + dice_below(dice, (uint32_t)(length - above)) : above;
+}
+
+/* One word of the job table becomes another, on both sides. Often it is just outside of what is sound. */
+static struct old_word damage_jobs(struct story *story, struct player *player, struct dice *dice)
+{
+    size_t at = some_job_word(player, dice);
+    uint32_t tags[] = {0, 1, 2, 3, 4, 4, 5, 0x80000001, 0xffffffff};
+    uint32_t slots[] = {0, 1, story->used - 1, story->used, story->used, story->used + 1, 0x80000000, 0xffffffff};
+    struct old_word old = {at, player->jobs.words[ARCHIVE][at]};
+
+    if (at >= 3 * (size_t)player->waiting)
+        set_job_word(player, at, 1u << dice_below(dice, 32));
+    else if (at % 3 == 0)
+        set_job_word(player, at, tags[dice_below(dice, sizeof tags / sizeof tags[0])]);
+    else
+        set_job_word(player, at, slots[dice_below(dice, sizeof slots / sizeof slots[0])]);
+    return old;
+}
+
+static uint32_t some_waiting(const struct player *player, struct dice *dice)
+{
+    uint32_t room = job_room(player);
+    uint32_t edges[] = {0,          room,       room + 1,   player->waiting - 1, player->waiting + 1, 65535, 65536,
+                        0x55555555, 0x55555556, 0x80000000, 0xffffffff};
+
+    return dice_once_in(dice, 12) ? edges[dice_below(dice, sizeof edges / sizeof edges[0])] : player->waiting;
+}
+
+/* Steps as the stop said, or such that they and the fuel are at the limit. */
+static uint32_t some_steps(const struct player *player, uint32_t fuel, struct dice *dice)
+{
+    switch (dice_below(dice, 12)) {
+    case 0:
+        return 0;
+    case 1:
+        return UINT32_MAX - fuel;
+    case 2:
+        return UINT32_MAX - fuel + 1;
+    case 3:
+        return UINT32_MAX;
+    default:
+        return player->steps;
+    }
+}
+
+/* The numbers of the stop, with some fuel. */
+static struct carry carry_of(const struct story *story, const struct player *player, uint32_t fuel)
+{
+    struct carry carry = {{story->base, player->f, player->x, story->used, fuel}, player->waiting, player->steps};
+
+    return carry;
+}
+
+/* The numbers of the stop, but for some. */
+static struct start some_carry(struct story *story, struct player *player, struct dice *dice, uint32_t fuel)
+{
+    struct start start = {&story->words, &player->jobs, carry_of(story, player, fuel), 1};
+
+    start.carry.run.base = some_base(story, dice);
+    start.carry.run.used = some_used(story, dice);
+    start.carry.waiting = some_waiting(player, dice);
+    if (dice_once_in(dice, 12))
+        start.carry.run.f = some_slot(story, dice);
+    if (dice_once_in(dice, 12))
+        start.carry.run.x = some_slot(story, dice);
+    if (fuel == 0)
+        start.carry.run.fuel = some_fuel(story, &start, dice);
+    start.carry.steps = some_steps(player, start.carry.run.fuel, dice);
+    return start;
+}
+
+/* One carry-on, of a stop that was or of one made up. Fuel 0 leaves the fuel to the dice. */
+static void play_carry(struct story *story, struct dice *dice, size_t jobs_len, uint32_t fuel)
+{
+    struct player *player = some_player(story, dice);
+    struct old_word old = {0, 0};
+    uint32_t answer[6];
+
+    if (player->number == DONE || dice_once_in(dice, 4))
+        make_up_stop(story, player, dice, jobs_len);
+    else if (dice_once_in(dice, 4))
+        move_jobs(player, dice, jobs_len);
+    int damaged = player->jobs.length > 0 && dice_once_in(dice, 4);
+    if (damaged)
+        old = damage_jobs(story, player, dice);
+    struct start start = some_carry(story, player, dice, fuel);
+    both_carry_on(&story->words, &start.carry, &player->jobs, answer);
+    remember(story, player, answer, dice);
+    if (damaged && answer[4] == 0) /* refused: the jobs are still there */
+        set_job_word(player, old.at, old.value);
+}
+
+/* Fuel in parts, of a run or of a carry-on. Much fuel is cut at some places only. */
+static void play_cut(struct story *story, struct dice *dice, size_t jobs_len, uint32_t fuel)
+{
+    struct player *player = some_player(story, dice);
+    struct start start = {.words = &story->words, .jobs = &player->jobs, .onward = dice_once_in(dice, 2)};
+    uint32_t answer[6];
+
+    if (start.onward) {
+        if (player->number != NO_FUEL)
+            make_up_stop(story, player, dice, jobs_len);
+        start.carry = carry_of(story, player, fuel);
+        if (start.carry.steps > UINT32_MAX - fuel || dice_once_in(dice, 8))
+            start.carry.steps = UINT32_MAX - fuel; /* the most that are taken */
+    } else {
+        lend_jobs(player, dice, jobs_len);
+        start.carry.run = (struct run){story->base, some_slot(story, dice), some_slot(story, dice), story->used, fuel};
+    }
+    if (fuel > MOST_CUTS)
+        cut_somewhere(&start, dice, answer);
+    else
+        cut_everywhere(&start, answer);
+    remember(story, player, answer, dice);
+}
+
+static void play_calls(struct story *story, struct dice *dice, uint32_t calls)
+{
+    for (uint32_t i = 0; i < calls; i++) {
         int damaged = story->used > 0 && dice_once_in(dice, 10);
         struct old_word old = {0, 0};
+        uint32_t kind = dice_below(dice, 32);
         if (damaged)
             old = damage_table(story, dice);
-        play_run(story, dice, some_jobs_length(dice), 0);
+        if (kind < 15)
+            play_run(story, dice, some_jobs_length(dice), 0);
+        else if (kind < 30)
+            play_carry(story, dice, some_jobs_length(dice), 0);
+        else
+            play_cut(story, dice, some_jobs_length(dice), dice_from(dice, 1, 40));
         if (damaged && !dice_once_in(dice, 8))
             set_word(story, old.at, old.value);
     }
 }
 
-/* A load that is accepted if the bundle is, and runs on its table. */
+/* A load that is accepted if the bundle is, and calls on its table. */
 static void play_loaded(const struct bundle *bundle, struct dice *dice)
 {
     struct place place = fitting_place(dice, bundle->node_count + dice_below(dice, dice_once_in(dice, 3) ? 6 : 200));
@@ -454,7 +698,7 @@ static void play_loaded(const struct bundle *bundle, struct dice *dice)
         check_export_slots(bundle, exports.words[ARCHIVE], answer[1]);
         check_placing(bundle, word_at(&story, ARCHIVE, 0), answer[1]);
     }
-    play_runs(&story, dice, dice_from(dice, 1, 10));
+    play_calls(&story, dice, dice_from(dice, 1, 16));
 }
 
 /* ---- Tables that no load has written */
@@ -483,7 +727,7 @@ static void play_made_table(struct dice *dice)
         fill_sound(&story, dice);
     if (story.used > 0 && dice_once_in(dice, 8))
         damage_table(&story, dice);
-    play_runs(&story, dice, dice_from(dice, 1, 5));
+    play_calls(&story, dice, dice_from(dice, 1, 10));
 }
 
 /* ---- The largest tables */
@@ -537,8 +781,15 @@ static void play_largest(struct dice *dice)
         know(&story, dice, add_doubled(&story, story.room - dice_below(dice, 3)));
     else
         know(&story, dice, add_tower(&story, dice_below(dice, 60)));
-    for (uint32_t i = 0; i < 4; i++)
-        play_run(&story, dice, jobs_len, dice_once_in(dice, 3) ? dice_from(dice, 1, 200000) : 3000000);
+    for (uint32_t i = 0; i < 6; i++) {
+        uint32_t fuel = dice_once_in(dice, 2) ? dice_from(dice, 1, 60000) : 3000000;
+        if (i % 3 == 0)
+            play_run(&story, dice, jobs_len, fuel);
+        else if (i % 3 == 1)
+            play_carry(&story, dice, jobs_len, fuel);
+        else
+            play_cut(&story, dice, jobs_len, fuel);
+    }
 }
 
 /* ---- Cases */
@@ -631,6 +882,7 @@ int main(int count, char **arguments)
     calls_case(options.seed, options.first, options.broken);
     check_published_digests();
     check_paper_cases();
+    check_carry_cases();
     check_vast_lengths();
     if (options.zeros)
         check_gigabyte();

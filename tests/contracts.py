@@ -10,10 +10,13 @@ import re
 
 import antt
 
-# what the contract of each public call says: LEFT are the lent tables at the exit and the answer, GIVEN the arguments, all in order
+# what the contract of each public call says: LEFT are the lent tables at the exit and the answer, GIVEN the arguments that the shape
+# does not name itself, all in order
 PUBLIC = {
     "loader::load": "loaded LEFT ≡ load GIVEN",
-    "engine::run": "ran LEFT ≡ run GIVEN",
+    "engine::run_from": "ran LEFT ≡ runFrom GIVEN",
+    "engine::run": "ran LEFT ≡ runFrom Scratch GIVEN",
+    "engine::carry_on": "ran LEFT ≡ runFrom (Stop waiting steps) GIVEN",
     "bundle::check": "LEFT ≡ refusal GIVEN",
     "bundle::exports::name_part": "LEFT ≡ namePart GIVEN",
     "bundle::exports::export_name": "now LEFT ≡ nameCall GIVEN",
@@ -25,7 +28,8 @@ PUBLIC = {
 FOR_C = {
     "arboricx::arboricx_check": "LEFT ≡ refusal GIVEN",
     "arboricx::arboricx_load": "left LEFT ≡ afterLoad (load GIVEN)",
-    "arboricx::arboricx_run": "left LEFT ≡ afterRun (run GIVEN)",
+    "arboricx::arboricx_run": "left LEFT ≡ afterRun (runFrom Scratch GIVEN)",
+    "arboricx::arboricx_carry_on": "left LEFT ≡ afterRun (runFrom (Stop waiting steps) GIVEN)",
     "arboricx::arboricx_export_index": "told LEFT ≡ afterIndex (indexCall GIVEN)",
     "arboricx::arboricx_export_name": "LEFT ≡ partWords (namePart GIVEN)",
     "arboricx::arboricx_sha256": "LEFT ≡ sha256 GIVEN",
@@ -33,11 +37,14 @@ FOR_C = {
 CONTRACTS = PUBLIC | FOR_C
 # arguments that are written only: no definition gets them
 WRITTEN = ("answer", "digest", "out")
+# arguments that a shape names itself
+NAMED = ("waiting", "steps")
 # where the names of these contracts come from: a file of specs as crate/Module, or one of the kit's library
 SOURCES = [
     *antt.CALLS.items(),
     ("loader/Load", ["loaded"]),
     ("engine/Run", ["ran"]),
+    ("engine/declared.From.the-variants", ["Scratch", "Stop"]),
     ("listing/Listing", ["listing"]),
     ("sha256_block/Fips180", ["sha256"]),
     ("arboricx/Answers", ["partWords"]),
@@ -131,7 +138,7 @@ def heads(name):
     for word in re.findall(r"[^\s()]+", CONTRACTS[name]):
         if word in WHERE or f"_{word}_" in WHERE:
             found.append(word if word in WHERE else f"_{word}_")
-        elif word not in ("LEFT", "GIVEN", "now", "r", "×", *WRITTEN, ".entry", ".exit"):
+        elif word not in ("LEFT", "GIVEN", "now", "r", "×", *WRITTEN, *NAMED, ".entry", ".exit"):
             raise antt.Fault(f"tests/contracts.py: {name}: SOURCES does not say where '{word}' comes from")
     return found
 
@@ -140,7 +147,9 @@ def equation(shape, parameters, returned):
     """What a contract of that shape says of these parameters, each a name and a type."""
     lent = [x for x, kind in parameters if kind.startswith("&mut")]
     left = [f"(now ({x} .exit))" for x in lent] + ["r"] if returned else [f"now ({x} .exit)" for x in lent]
-    given = [f"(now ({x} .entry))" if kind.startswith("&") else x for x, kind in parameters if x not in WRITTEN or x not in lent]
+    named = [x for x in NAMED if re.search(rf"\b{x}\b", shape)]
+    taken = [(x, kind) for x, kind in parameters if x not in named and (x not in WRITTEN or x not in lent)]
+    given = [f"(now ({x} .entry))" if kind.startswith("&") else x for x, kind in taken]
     return shape.replace("LEFT", " ".join(left)).replace("GIVEN", " ".join(given))
 
 
@@ -208,7 +217,8 @@ def wrong(texts, sources):
         yield f"one at the start of a line, of {name}", other(name, "⌝ }", f"⌝\n}}\n{asks}"), part
     for name, old, new in (
         ("arboricx::arboricx_run", "base f x", "base x f"),
-        ("arboricx::arboricx_run", "(run ", "(runTail "),
+        ("arboricx::arboricx_run", "(runFrom Scratch ", "(runTail Scratch "),
+        ("arboricx::arboricx_carry_on", "(Stop waiting steps)", "(Stop steps waiting)"),
         ("arboricx::arboricx_load", "(answer .exit)", "(answer .entry)"),
         ("arboricx::arboricx_load", "exports: &mut", "exports: &"),
         ("arboricx::arboricx_export_index", "(now (file .entry)) (now (name .entry))", "(now (name .entry)) (now (file .entry))"),
@@ -216,6 +226,8 @@ def wrong(texts, sources):
         ("engine::run", "used fuel", "used 0"),
         ("engine::run", "used fuel", "used (fuel - 1)"),
         ("engine::run", "f x used", "f f used"),
+        ("engine::carry_on", "(Stop waiting steps)", "(Stop waiting 0)"),
+        ("engine::carry_on", "(Stop waiting steps)", "Scratch"),
         ("engine::run", "⌜ ran", "⌜ 0 ≡ 1 → ran"),
         ("loader::load", " base (", " (pos 0) ("),
         ("loader::load", "(words .exit)", "(words .entry)"),

@@ -18,7 +18,7 @@ import sys
 import tempfile
 
 ROOT = pathlib.Path(__file__).resolve().parent.parent
-SOURCE = (ROOT / "crates/arboricx/src/lib.rt").read_text()
+SOURCE = "\n".join(path.read_text() for path in sorted((ROOT / "crates/arboricx/src").glob("*.rt")))
 HEADER = (ROOT / "include/arboricx.h").read_text()
 SIZES = (ROOT / "crates/sizes/src/lib.rt").read_text()
 LIMITS = (ROOT / "crates/table/src/limits.rt").read_text()
@@ -129,10 +129,12 @@ WRONG = [
     ("another name", "arboricx_load(", "arboricx_lade("),
     ("a call that is not there", "uint32_t arboricx_check(", "uint32_t arboricx_test(void);\nuint32_t arboricx_check("),
     ("an unsigned base", "size_t words_len, int32_t base,\n                       uint32_t *exports", "size_t words_len, uint32_t base,\n                       uint32_t *exports"),
-    ("a short length", "uint32_t *jobs, size_t jobs_len", "uint32_t *jobs, uint32_t jobs_len"),
+    ("a short length", "uint32_t fuel,\n                      uint32_t *jobs, size_t jobs_len", "uint32_t fuel,\n                      uint32_t *jobs, uint32_t jobs_len"),
     ("a file that is written", "arboricx_check(const uint8_t *file", "arboricx_check(uint8_t *file"),
-    ("f and x swapped", "int32_t f, int32_t x", "int32_t x, int32_t f"),
+    ("f and x swapped", "int32_t f, int32_t x, uint32_t used, uint32_t fuel", "int32_t x, int32_t f, uint32_t used, uint32_t fuel"),
     ("no fuel", "uint32_t used, uint32_t fuel,", "uint32_t used,"),
+    ("jobs and steps swapped", "uint32_t waiting, uint32_t steps,", "uint32_t steps, uint32_t waiting,"),
+    ("no earlier steps", "uint32_t waiting, uint32_t steps, uint32_t fuel,", "uint32_t waiting, uint32_t fuel,"),
     ("a result", "void arboricx_export_name(", "uint32_t arboricx_export_name("),
     ("no result", "uint32_t arboricx_run(", "void arboricx_run("),
     ("a short answer", "    ARBORICX_RUN_JOBS, ", "    "),

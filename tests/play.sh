@@ -4,8 +4,10 @@ here=$(dirname "$0")
 sample=$here/../host/opponents.arboricx
 {
     "$1" "$sample"
-    "$1" "$sample" patient
-    "$1" "$sample" endless 100
+    "$1" "$sample" main 1
+    "$1" "$sample" patient 3
+    "$1" "$sample" endless 100 4
+    "$1" "$sample" endless 1000
     "$1" "$sample" endless 1000000
     "$1" "$sample" nobody
     "$1" "$0"

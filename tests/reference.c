@@ -781,15 +781,17 @@ void reference_export_name(const uint8_t *file, size_t file_len, uint32_t index,
     answer[1] = manifest.exports[index].name.length;
 }
 
-/* ---- The run */
+/* ---- The run and the carry-on */
 
 enum { THEN_B_TO_X = 1, THEN_RESULT_TO_V, THEN_W_TO_RESULT };
 
+/* f is to be applied to x. */
 struct machine {
     uint32_t *slots;
     uint32_t used, room;
     uint32_t *jobs;
     uint32_t waiting, job_room;
+    uint32_t f, x;
     uint32_t fuel, steps;
 };
 
@@ -940,8 +942,10 @@ static uint32_t answer_run(uint32_t answer[6], uint32_t number, uint32_t f, uint
     return number;
 }
 
-static uint32_t run_machine(struct machine *machine, uint32_t f, uint32_t x, uint32_t answer[6])
+static uint32_t run_machine(struct machine *machine, uint32_t answer[6])
 {
+    uint32_t f = machine->f, x = machine->x;
+
     for (;;) {
         unsigned rule = next_rule(machine->slots, f, x);
         uint32_t stop = stop_before(machine, rule);
@@ -961,6 +965,37 @@ static bool slot_unused(int32_t slot, uint32_t used)
     return slot < 0 || (uint32_t)slot >= used;
 }
 
+/* What a run and a carry-on refuse alike: 21, 23 and 24. Else 0, and the machine has its slots, f and x. */
+static uint32_t lend_slots(struct machine *machine, uint32_t *words, size_t words_len, int32_t base, int32_t f,
+                           int32_t x)
+{
+    base = signed_number(FAULT_NEGATIVE_BASE, base);
+    f = signed_number(FAULT_NEGATIVE_SLOT, f);
+    x = signed_number(FAULT_NEGATIVE_SLOT, x);
+    if (base_outside(words_len, base))
+        return 21;
+    look_outside(FAULT_BEFORE_BASE, words + base - (base > 0));
+    machine->slots = words + base;
+    machine->room = room_from(words_len, base);
+    if (machine->used == 0 || machine->used > machine->room)
+        return 21;
+    if (slot_unused(f, machine->used) || slot_unused(x, machine->used))
+        return 23;
+    if (slots_damaged(machine->slots, machine->used))
+        return 24;
+    machine->f = (uint32_t)f;
+    machine->x = (uint32_t)x;
+    return 0;
+}
+
+static void lend_jobs(struct machine *machine, uint32_t *jobs, size_t jobs_len)
+{
+    size_t room = jobs_len / JOB_WORDS;
+
+    machine->jobs = jobs;
+    machine->job_room = room < MAX_JOBS ? (uint32_t)room : MAX_JOBS;
+}
+
 static uint32_t refuse_run(uint32_t answer[6], uint32_t number)
 {
     memset(answer, 0, 6 * sizeof answer[0]);
@@ -971,23 +1006,76 @@ static uint32_t refuse_run(uint32_t answer[6], uint32_t number)
 uint32_t reference_run(uint32_t *words, size_t words_len, int32_t base, int32_t f, int32_t x, uint32_t used,
                        uint32_t fuel, uint32_t *jobs, size_t jobs_len, uint32_t answer[6])
 {
-    struct machine machine = {.used = used, .jobs = jobs, .fuel = fuel};
+    struct machine machine = {.used = used, .fuel = fuel};
+    uint32_t number = lend_slots(&machine, words, words_len, base, f, x);
 
-    base = signed_number(FAULT_NEGATIVE_BASE, base);
-    f = signed_number(FAULT_NEGATIVE_SLOT, f);
-    x = signed_number(FAULT_NEGATIVE_SLOT, x);
-    if (base_outside(words_len, base))
-        return refuse_run(answer, 21);
-    look_outside(FAULT_BEFORE_BASE, words + base - (base > 0));
-    machine.slots = words + base;
-    machine.room = room_from(words_len, base);
-    if (used == 0 || used > machine.room)
-        return refuse_run(answer, 21);
-    if (slot_unused(f, used) || slot_unused(x, used))
-        return refuse_run(answer, 23);
-    if (slots_damaged(machine.slots, used))
-        return refuse_run(answer, 24);
-    machine.job_room = jobs_len / JOB_WORDS < MAX_JOBS ? (uint32_t)(jobs_len / JOB_WORDS) : MAX_JOBS;
+    if (number != 0)
+        return refuse_run(answer, number);
+    lend_jobs(&machine, jobs, jobs_len);
     memset(jobs, 0, (reference_fault_at(FAULT_JOB_REMAINDER) ? machine.job_room * JOB_WORDS : jobs_len) * sizeof *jobs);
-    return run_machine(&machine, (uint32_t)f, (uint32_t)x, answer);
+    return run_machine(&machine, answer);
+}
+
+static bool job_damaged(const uint32_t *job, uint32_t used)
+{
+    switch (job[0]) {
+    case THEN_B_TO_X:
+        return job[1] >= used || job[2] >= used;
+    case THEN_RESULT_TO_V:
+    case THEN_W_TO_RESULT:
+        return job[1] >= used || (job[2] != 0 && !reference_fault_at(FAULT_THIRD_WORD));
+    default:
+        return true;
+    }
+}
+
+/* The waiting jobs are damaged: too many, one that is none, or a word above them that is not 0. */
+static bool jobs_damaged(const struct machine *machine, size_t jobs_len)
+{
+    size_t end = reference_fault_at(FAULT_REMAINDER_UNSEEN) ? (size_t)machine->job_room * JOB_WORDS : jobs_len;
+
+    if (machine->waiting > machine->job_room)
+        return true;
+    if (reference_fault_at(FAULT_JOBS_TRUSTED))
+        return false;
+    for (uint32_t i = 0; i < machine->waiting; i++)
+        if (job_damaged(machine->jobs + JOB_WORDS * i, machine->used))
+            return true;
+    for (size_t at = (size_t)machine->waiting * JOB_WORDS; at < end; at++)
+        if (machine->jobs[at] != 0)
+            return true;
+    return false;
+}
+
+/* Earlier steps and fuel, as whole numbers. */
+static bool too_many_steps(const struct machine *machine)
+{
+    uint64_t sum = (uint64_t)machine->steps + machine->fuel;
+
+    if (reference_fault_at(FAULT_SUM_WRAPS))
+        sum = (uint32_t)sum;
+    return sum > UINT32_MAX;
+}
+
+uint32_t reference_carry_on(uint32_t *words, size_t words_len, int32_t base, int32_t f, int32_t x, uint32_t used,
+                            uint32_t waiting, uint32_t steps, uint32_t fuel, uint32_t *jobs, size_t jobs_len,
+                            uint32_t answer[6])
+{
+    struct machine machine = {.used = used, .waiting = waiting, .steps = steps, .fuel = fuel};
+    uint32_t number = lend_slots(&machine, words, words_len, base, f, x);
+
+    if (number != 0)
+        return refuse_run(answer, number);
+    lend_jobs(&machine, jobs, jobs_len);
+    if (reference_fault_at(FAULT_SUM_FIRST) && too_many_steps(&machine))
+        return refuse_run(answer, 40);
+    if (jobs_damaged(&machine, jobs_len))
+        return refuse_run(answer, 24);
+    if (too_many_steps(&machine))
+        return refuse_run(answer, 40);
+    if (reference_fault_at(FAULT_JOBS_ZEROED))
+        memset(jobs, 0, jobs_len * sizeof *jobs);
+    if (reference_fault_at(FAULT_STEPS_FROM_ZERO))
+        machine.steps = 0;
+    return run_machine(&machine, answer);
 }

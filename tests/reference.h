@@ -16,6 +16,10 @@ uint32_t reference_load(const uint8_t *file, size_t file_len, uint32_t *words, s
 uint32_t reference_run(uint32_t *words, size_t words_len, int32_t base, int32_t f, int32_t x, uint32_t used,
                        uint32_t fuel, uint32_t *jobs, size_t jobs_len, uint32_t answer[6]);
 
+uint32_t reference_carry_on(uint32_t *words, size_t words_len, int32_t base, int32_t f, int32_t x, uint32_t used,
+                            uint32_t waiting, uint32_t steps, uint32_t fuel, uint32_t *jobs, size_t jobs_len,
+                            uint32_t answer[6]);
+
 uint32_t reference_export_index(const uint8_t *file, size_t file_len, const uint8_t *name, size_t name_len,
                                 uint32_t answer[2]);
 
@@ -50,6 +54,13 @@ enum reference_fault_place {
     FAULT_SHA_PADDING,        /* the digest of 56 bytes modulo 64 lacks a block */
     FAULT_BEFORE_BASE,        /* a run looks at the word before the base: a fence has to catch it */
     FAULT_BEHIND_FILE,        /* a check looks at the byte behind the file: a fence has to catch it */
+    FAULT_JOBS_TRUSTED,       /* of the waiting jobs only the count is looked at */
+    FAULT_THIRD_WORD,         /* the third word of a job may be any under tags 2 and 3 */
+    FAULT_REMAINDER_UNSEEN,   /* words after the last whole job may be any */
+    FAULT_SUM_WRAPS,          /* earlier steps plus fuel wraps */
+    FAULT_SUM_FIRST,          /* 40 is looked for before the waiting jobs are */
+    FAULT_JOBS_ZEROED,        /* a carry-on zeroes the jobs first */
+    FAULT_STEPS_FROM_ZERO,    /* a carry-on counts its own steps only */
     FAULT_END
 };
 

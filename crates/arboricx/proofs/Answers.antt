@@ -15,8 +15,9 @@ use Rattle.loader.specs.declared.LoadAnswer.{LoadAnswer}
 use Rattle.loader.specs.Load.{Loaded, loaded}
 use Rattle.loader.specs.Answer as loader
 use Rattle.engine.specs.declared.RunAnswer.{RunAnswer}
-use Rattle.engine.specs.Run.{Ran, ran, run}
+use Rattle.engine.specs.Run.{Ran, ran, runFrom}
 use Rattle.engine.specs.Answer as engine
+use Rattle.engine.specs.declared.From.{From}
 use Rattle.engine.specs.Named.{Named}
 use Rattle.engine.proofs.Named.{slots-named}
 use Rattle.arboricx.specs.Answers.{loadWords, runWords, indexWords}
@@ -28,16 +29,16 @@ pub load-left : {w out : List ℕ} {a b : LoadAnswer} {l : Loaded} → loaded w 
     left w out (loadWords b) (loader.numbers b .number) ≡ afterLoad l
 load-left e h = rw (← h) (ap afterLoad e)
 
--- ---- a run
+-- ---- a run, from scratch or from a stop
 
-pub run-left : {w j : List ℕ} {a b : RunAnswer} {r : Ran} → ran w j a ≡ r → a ≡ b →
-    left w j (runWords b) (engine.numbers b .number) ≡ afterRun r
-run-left e h = rw (← h) (ap afterRun e)
+pub run-left : {w j words : List ℕ} {number : ℕ} {a : RunAnswer} {r : Ran} → ran w j a ≡ r →
+    (words ≡ runWords a) × (number ≡ engine.numbers a .number) → left w j words number ≡ afterRun r
+run-left e h = rw (h .0, h .1) (ap afterRun e)
 
 -- its slots are used ones
-pub run-named : (w j : List ℕ) (base f x : ℤ) (used fuel : ℕ) {w′ j′ : List ℕ} {a b : RunAnswer} →
-    ran w′ j′ a ≡ run w base f x used fuel j → a ≡ b → Named b
-run-named w j base f x used fuel e h = subst Named h (slots-named w _ j _ base f x used fuel _ (sym e))
+pub run-named : (from : From) (w j : List ℕ) (base f x : ℤ) (used fuel : ℕ) {w′ j′ : List ℕ} {a : RunAnswer} →
+    ran w′ j′ a ≡ runFrom from w base f x used fuel j → Named a
+run-named from w j base f x used fuel e = slots-named from w _ j _ base f x used fuel _ (sym e)
 
 -- ---- an index by name
 

@@ -17,7 +17,7 @@ pub data Left : Type 0 where
 abbrev pub afterLoad : Loaded → Left
 afterLoad (loaded words exports a) = left words exports (loadWords a) (load.numbers a .number)
 
--- of a run: the word table and the job table
+-- of a run or a carry-on: the word table and the job table
 abbrev pub afterRun : Ran → Left
 afterRun (ran words jobs a) = left words jobs (runWords a) (run.numbers a .number)
 

@@ -19,7 +19,7 @@ LoadWordsAre =
     ((n : ℕ) → afterLoad (loaded w e (load.Refused n)) ≡ left w e (n ∷ 0 ∷ 0 ∷ []) n) ×
     ((nodes exports : ℕ) → afterLoad (loaded w e (load.Accepted nodes exports)) ≡ left w e (0 ∷ nodes ∷ exports ∷ []) 0)
 
--- Of a run: both tables as it leaves them; its numbers, where a result and an f share a word, since a done run has no f, a stopped
+-- Of a run or a carry-on: both tables as it leaves them; its numbers, where a result and an f share a word, since a done run has no f, a stopped
 -- one no result, and numbers not named are 0; the number. A slot is its own word; none that is answered is negative (SlotsNamed of engine).
 abbrev pub RunWordsAre : Type 0
 RunWordsAre =

@@ -4,11 +4,15 @@ ghost use Rattle.sha256_block.specs.Fips180.{sha256};
 ghost use Rattle.bundle.specs.Checks.{refusal};
 ghost use Rattle.bundle.specs.Exports.{namePart, indexCall};
 ghost use Rattle.loader.specs.Load.{load};
-ghost use Rattle.engine.specs.Run.{run};
-ghost use Rattle.arboricx.specs.Answers.{partWords};
+ghost use Rattle.engine.specs.Answer.{numbers};
+ghost use Rattle.engine.specs.Named.{Named};
+ghost use Rattle.engine.specs.Run.{runFrom};
+ghost use Rattle.engine.specs.declared.From.the-variants.{Scratch, Stop};
+ghost use Rattle.arboricx.specs.Answers.{runWords, partWords};
 ghost use Rattle.arboricx.specs.Calls.{left, afterLoad, afterRun, told, afterIndex};
 use bundle::exports::IndexAnswer;
 use bundle::exports::Part;
+use engine::From;
 use engine::RunAnswer;
 use loader::LoadAnswer;
 
@@ -44,22 +48,12 @@ pub extern "C" fn arboricx_load(
     }
 }
 
-// Applies slot f to slot x. The answer: number; result slot or f; x; steps; used count; jobs waiting.
-#[no_mangle]
-pub extern "C" fn arboricx_run(
-    words: &mut [u32],
-    base: i32,
-    f: i32,
-    x: i32,
-    used: u32,
-    fuel: u32,
-    jobs: &mut [u32],
-    answer: &mut [u32; 6],
-) -> u32
-    ensures { λ r. ⌜ left (now (words .exit)) (now (jobs .exit)) (now (answer .exit)) r
-        ≡ afterRun (run (now (words .entry)) base f x used fuel (now (jobs .entry))) ⌝ }
+// Writes the words of a run's answer. Returns its number.
+fn put_run(answer: &mut [u32; 6], a: RunAnswer) -> u32
+    requires { ⌜ Named a ⌝ }
+    ensures { λ r. ⌜ (now (answer .exit) ≡ runWords a) × (r ≡ numbers a .number) ⌝ }
 {
-    match engine::run(words, base, f, x, used, fuel, jobs) {
+    match a {
         RunAnswer::Refused(number) => {
             *answer = [number, 0, 0, 0, 0, 0];
             number
@@ -80,6 +74,64 @@ pub extern "C" fn arboricx_run(
             number
         }
     }
+}
+
+// Runs from scratch or from a stop, and writes the words of the answer. The tables come first, so that they are passed in registers.
+fn run_words(
+    words: &mut [u32],
+    jobs: &mut [u32],
+    answer: &mut [u32; 6],
+    from: From,
+    base: i32,
+    f: i32,
+    x: i32,
+    used: u32,
+    fuel: u32,
+) -> u32
+    ensures { λ r. ⌜ left (now (words .exit)) (now (jobs .exit)) (now (answer .exit)) r
+        ≡ afterRun (runFrom from (now (words .entry)) base f x used fuel (now (jobs .entry))) ⌝ }
+{
+    let a = engine::run_from(from, words, base, f, x, used, fuel, jobs);
+    put_run(answer, a)
+}
+
+// Applies slot f to slot x. The answer: number; result slot or f; x; steps; used count; jobs waiting.
+#[no_mangle]
+pub extern "C" fn arboricx_run(
+    words: &mut [u32],
+    base: i32,
+    f: i32,
+    x: i32,
+    used: u32,
+    fuel: u32,
+    jobs: &mut [u32],
+    answer: &mut [u32; 6],
+) -> u32
+    ensures { λ r. ⌜ left (now (words .exit)) (now (jobs .exit)) (now (answer .exit)) r
+        ≡ afterRun (runFrom Scratch (now (words .entry)) base f x used fuel (now (jobs .entry))) ⌝ }
+{
+    run_words(words, jobs, answer, From::Scratch, base, f, x, used, fuel)
+}
+
+// Goes on with a stopped run, of which so many jobs wait and so many steps are done. The answer: a run's, with the steps in total.
+#[no_mangle]
+pub extern "C" fn arboricx_carry_on(
+    words: &mut [u32],
+    base: i32,
+    f: i32,
+    x: i32,
+    used: u32,
+    waiting: u32,
+    steps: u32,
+    fuel: u32,
+    jobs: &mut [u32],
+    answer: &mut [u32; 6],
+) -> u32
+    ensures { λ r. ⌜ left (now (words .exit)) (now (jobs .exit)) (now (answer .exit)) r
+        ≡ afterRun (runFrom (Stop waiting steps) (now (words .entry)) base f x used fuel (now (jobs .entry))) ⌝ }
+{
+    let from = From::Stop { waiting, steps };
+    run_words(words, jobs, answer, from, base, f, x, used, fuel)
 }
 
 // The index of the export with a name. The answer: number, index.

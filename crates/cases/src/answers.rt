@@ -30,3 +30,22 @@ pub fn run_line(number: u32, result: i32, f: i32, x: i32, steps: u32, used: u32,
     decimal(waiting);
     text(b"\n");
 }
+
+// The same numbers of a run that was cut in two, with no names to them.
+pub fn cut_line(number: u32, result: i32, f: i32, x: i32, steps: u32, used: u32, waiting: u32) {
+    text(b"cut ");
+    decimal(number);
+    text(b" ");
+    slot(result);
+    text(b" ");
+    slot(f);
+    text(b" ");
+    slot(x);
+    text(b" ");
+    decimal(steps);
+    text(b" ");
+    decimal(used);
+    text(b" ");
+    decimal(waiting);
+    text(b"\n");
+}

@@ -7,7 +7,7 @@ pub fn number(s: &[u8], at: usize) -> u32 {
     (wire::u32_at(s, at).or_zero() % 4294967296) as u32
 }
 
-// Where the number stands that is n numbers behind a place; no input has more than 16,384.
+// Where the number stands that is n numbers after a place; no table has more than 16,384.
 pub fn behind(at: usize, n: usize) -> usize
     requires { ⌜ n ≤ 16384 ⌝ }
 {

@@ -1,5 +1,5 @@
--- The ways through the refusals and through the run call, and that a run that is let start is ready.
-use Prim.Native.Nat.{ℕ, _-_, _≤_, _<_}
+-- The ways through the refusals and through the run from scratch or from a stop, and that what the loop starts with is ready.
+use Prim.Native.Nat.{ℕ, _+_, _-_, _≤_, _<_}
 use mathlib.Core.Path.{_≡_, refl, sym, ap, _∙_, subst}
 use mathlib.Core.Bool.{Bool, true, false}
 use mathlib.Core.List.{List}
@@ -7,23 +7,29 @@ use lib.Dec.{eqb, ltb}
 use lib.IntN.{ℤ, pos, negsuc}
 use lib.ListN.{length, take, drop}
 use borrow.Rule.Slice.PartMut.{midOf, putMid}
-use borrow.Author.Tests.{eq-eqb, ne-eqb, lt-ltb, le-ltb, ltb-false}
+use native.Mathlib.Omega.{arith}
+use borrow.Author.Tests.{eq-eqb, ne-eqb, eqb-true, lt-ltb, le-ltb, ltb-false}
 use Rattle.table.specs.declared.slots.Slot.{Slot}
 use Rattle.table.specs.declared.slots.Place.{Place}
 use Rattle.table.specs.declared.slots.Place.the-variants.{At, Nowhere}
 use Rattle.table.specs.Slots.{room, place}
 use Rattle.table.specs.Sound.{sound}
-use Rattle.table.specs.Frames.{cleared}
+use Rattle.table.specs.Frames.{Record, recordAt, frameOf, frameAt, cleared, Names}
+use Rattle.table.specs.SoundFrames.{framesSound, SoundJob}
 use Rattle.table.proofs.Tests.{by-test}
 use Rattle.table.proofs.Tail.{tail-lent, tail-home}
 use Rattle.table.proofs.SlotLaws.{place-below}
+use Rattle.table.proofs.SoundFrames.{frames-sound}
 use Rattle.engine.specs.declared.step.State.{State}
+use Rattle.engine.specs.declared.From.{From}
+use Rattle.engine.specs.declared.From.the-variants.{Scratch, Stop}
 use Rattle.engine.specs.declared.Admission.{Admission}
 use Rattle.engine.specs.declared.Admission.the-variants.{Refused as NotLet, Start}
 use Rattle.engine.specs.declared.RunAnswer.{RunAnswer}
 use Rattle.engine.specs.declared.RunAnswer.the-variants.{Refused}
 use Rattle.engine.specs.Ready.{Ready, Waits}
-use Rattle.engine.specs.Run.{Ran, ran, drive, admitAt, admit, start, runTail, behind, run}
+use Rattle.engine.specs.Run.{Ran, ran, drive, admitAt, admit, stepsOf, maxSteps, Begun, begun, begin, goesOn}
+use Rattle.engine.specs.Run.{start, runTail, behind, runFrom}
 use Rattle.engine.proofs.Keeps.{waits-none}
 
 -- ---- the refusals
@@ -74,7 +80,7 @@ module _ (w : List ℕ) (f x : ℤ) (used : ℕ) where
           admit-start h = (simp (← eg, h)) ∙ placed-x
 
 -- the state that a run starts from is ready, and no frame waits
-abbrev Let : List ℕ → Admission → Type 0
+abbrev pub Let : List ℕ → Admission → Type 0
 Let w (NotLet n) = Unit {0}
 Let w (Start s) = Ready w s × (s .waiting ≡ 0)
 
@@ -95,7 +101,7 @@ module _ (w : List ℕ) (f x : ℤ) (used : ℕ) where
       ))
       (λ _. tt)
 
-  let-all : Let w (admit w f x used)
+  pub let-all : Let w (admit w f x used)
   unfolding admit
   let-all =
       by-test (Let w) (eqb used 0) (λ _. tt)
@@ -103,56 +109,116 @@ module _ (w : List ℕ) (f x : ℤ) (used : ℕ) where
       by-test (Let w) (ltb (room w) used) (λ _. tt)
       (λ e. let-at (ltb-false (room w) used e) (place f used) (place x used) refl refl))
 
-  module _ (a : Admission) (e : a ≡ admit w f x used) (s : State) (h : a ≡ Start s) where
-    started : Let w (Start s)
-    started = subst (Let w) (sym e ∙ h) let-all
+-- ---- how a run begins
 
-    -- what a run starts from, once it is let
-    pub start-ready : Ready w s
-    start-ready = started .0
+-- sound frames wait
+names-of : (used : ℕ) (r : Record) → SoundJob used r → Names used (frameOf (r .tag) (r .first) (r .second))
+names-of used r s =
+    by-test (Names used) (eqb (r .tag) 1) (λ e. (s .first, s .second (eqb-true (r .tag) 1 e)))
+    (λ _. by-test (Names used) (eqb (r .tag) 2) (λ _. s .first) (λ _. s .first))
 
-    pub start-waits : (j : List ℕ) → Waits j (s .used) (s .waiting)
-    start-waits j = rw (started .1) (waits-none j (s .used))
+pub sound-waits : (j : List ℕ) (used waiting : ℕ) → framesSound used j waiting ≡ true → Waits j used waiting
+unfolding frameAt
+sound-waits j used n e =
+    let s = frames-sound used j n .0 e in
+    record { fits = s .fits; names = λ k l. names-of used (recordAt j k) (s .each k l) }
 
--- ---- the run on our part of the table
+module _ (from : From) (s : State) (fuel : ℕ) (j : List ℕ) where
+  -- a cleared table,
+  pub begin-scratch : from ≡ Scratch → (j′ : List ℕ) → j′ ≡ cleared j → begun j′ (Start s) ≡ begin from s fuel j
+  unfolding begin
+  begin-scratch e j′ ej = rw (e, ej)
+
+  -- frames that are not sound,
+  module _ (waiting steps : ℕ) (e : from ≡ Stop waiting steps) (good : Bool) (g : good ≡ framesSound (s .used) j waiting) where
+    pub begin-unsound : good ≡ false → begun j (NotLet 24) ≡ begin from s fuel j
+    unfolding begin
+    begin-unsound h = rw (e, begin, ← g, h)
+
+    -- too many steps, or none of these
+    module _ (h : good ≡ true) (l : steps ≤ maxSteps) where
+      pub begin-many : maxSteps - steps < fuel → begun j (NotLet 40) ≡ begin from s fuel j
+      unfolding begin
+      begin-many m = rw (e, begin, ← g, h, lt-ltb maxSteps (steps + fuel) (omega arith))
+
+      pub begin-on : fuel ≤ maxSteps - steps
+          → begun j (Start (record { f = s .f; x = s .x; used = s .used; waiting = waiting })) ≡ begin from s fuel j
+      unfolding begin
+      begin-on m = rw (e, begin, ← g, h, le-ltb maxSteps (steps + fuel) (omega arith))
+
+-- what the loop starts with is ready, and its steps can be counted
+abbrev pub Good : List ℕ → From → ℕ → Begun → Type 0
+Good w from fuel (begun j (NotLet n)) = Unit {0}
+Good w from fuel (begun j (Start s)) =
+    Ready w s × Waits j (s .used) (s .waiting) × (fuel ≤ maxSteps → fuel + stepsOf from ≤ maxSteps)
+
+pub begin-good : (w : List ℕ) (from : From) (s : State) (fuel : ℕ) (j : List ℕ) → Ready w s → s .waiting ≡ 0
+    → Good w from fuel (begin from s fuel j)
+unfolding begin
+begin-good w Scratch s fuel j ready none = (ready, rw none (waits-none (cleared j) (s .used)), λ l. omega arith)
+begin-good w (Stop waiting steps) s fuel j ready none =
+    by-test (Good w (Stop waiting steps) fuel) (framesSound (s .used) j waiting)
+    (λ q. by-test (Good w (Stop waiting steps) fuel) (ltb maxSteps (steps + fuel)) (λ _. tt)
+    (λ l. (
+      record { slots = ready .slots; f = ready .f; x = ready .x },
+      sound-waits j (s .used) waiting q,
+      λ m. omega (arith, ltb-false maxSteps (steps + fuel) l),
+    )))
+    (λ _. tt)
+
+-- ---- on our part of the table
 
 -- (again with f and x read back)
-module _ (w j : List ℕ) (f x : ℤ) (used fuel : ℕ) (f′ x′ : ℤ) (ef : f′ ≡ f) (ex : x′ ≡ x) (a : Admission)
+module _ (from : From) (w j : List ℕ) (f x : ℤ) (used fuel : ℕ) (f′ x′ : ℤ) (ef : f′ ≡ f) (ex : x′ ≡ x) (a : Admission)
     (e : a ≡ admit w f′ x′ used) where
-  tail : {b : Admission} → a ≡ b → start w fuel j b ≡ runTail w f x used fuel j
+  tail : {b : Admission} → a ≡ b → start from w fuel j b ≡ runTail from w f x used fuel j
   unfolding runTail
   tail h = rw (← ef, ← ex, ← e, h)
 
-  -- a refusal, or the loop with all of the fuel on a cleared frame table
-  pub tail-refused : (n : ℕ) → a ≡ NotLet n → ran w j (Refused n) ≡ runTail w f x used fuel j
+  -- a refusal,
+  pub tail-refused : (n : ℕ) → a ≡ NotLet n → ran w j (Refused n) ≡ runTail from w f x used fuel j
   unfolding start
   tail-refused n h = tail h
 
-  pub tail-started : (s : State) → a ≡ Start s → (j′ : List ℕ) → j′ ≡ cleared j → (n k : ℕ) → n ≡ fuel → k ≡ 0 →
-      (r : Ran) → r ≡ drive n k w j′ s → r ≡ runTail w f x used fuel j
-  unfolding start
-  tail-started s h j′ ej n k en ek r er = er ∙ (rw (ej, en, ek)) ∙ tail h
+  -- or what the run begins with
+  module _ (s : State) (h : a ≡ Start s) (j′ : List ℕ) (b : Admission) (q : begun j′ b ≡ begin from s fuel j) where
+    pub tail-ready : (t : State) → b ≡ Start t → Good w from fuel (begun j′ (Start t))
+    tail-ready t g =
+        let r : Let w (Start s) = subst (Let w) (sym e ∙ h) (let-all w f′ x′ used) in
+        subst (Good w from fuel) (sym q ∙ ap (begun j′) g) (begin-good w from s fuel j (r .0) (r .1))
 
--- ---- the run call
+    begins : {b′ : Admission} → b ≡ b′ → goesOn from w fuel (begun j′ b′) ≡ runTail from w f x used fuel j
+    unfolding start
+    begins g = ap (λ (c : Admission). goesOn from w fuel (begun j′ c)) (sym g) ∙ ap (goesOn from w fuel) q ∙ tail h
 
-module _ (w j : List ℕ) (base f x : ℤ) (used fuel : ℕ) where
+    -- which is refused, or is the loop's
+    pub tail-begun : (n : ℕ) → b ≡ NotLet n → ran w j′ (Refused n) ≡ runTail from w f x used fuel j
+    tail-begun n g = begins g
+
+    pub tail-started : (t : State) → b ≡ Start t → (n k : ℕ) → n ≡ fuel → k ≡ stepsOf from → (r : Ran)
+        → r ≡ drive n k w j′ t → r ≡ runTail from w f x used fuel j
+    tail-started t g n k en ek r er = er ∙ (rw (en, ek)) ∙ begins g
+
+-- ---- at the base
+
+module _ (from : From) (w j : List ℕ) (base f x : ℤ) (used fuel : ℕ) where
   -- a negative base, one past the end,
-  pub run-negative : (n : ℕ) × (base ≡ negsuc n) → ran w j (Refused 21) ≡ run w base f x used fuel j
-  unfolding run
+  pub run-negative : (n : ℕ) × (base ≡ negsuc n) → ran w j (Refused 21) ≡ runFrom from w base f x used fuel j
+  unfolding runFrom
   run-negative p = rw (p .1)
 
   module _ (n : ℕ) (b : base ≡ pos n) where
-    pub run-past : length w < n → ran w j (Refused 21) ≡ run w base f x used fuel j
-    unfolding run
+    pub run-past : length w < n → ran w j (Refused 21) ≡ runFrom from w base f x used fuel j
+    unfolding runFrom
     run-past h = rw b (simp (lt-ltb _ _ h))
 
     -- or one within the table; f and x are read back from their bits here too
     pub run-behind : n ≤ length w → (f′ x′ : ℤ) → f′ ≡ f → x′ ≡ x → (w′ j′ : List ℕ) (r : RunAnswer) →
-        ran w′ j′ r ≡ runTail (midOf n (length w - n) w) f′ x′ used fuel j →
-        ran (putMid n (length w - n) w w′) j′ r ≡ run w base f x used fuel j
-    unfolding run
+        ran w′ j′ r ≡ runTail from (midOf n (length w - n) w) f′ x′ used fuel j →
+        ran (putMid n (length w - n) w w′) j′ r ≡ runFrom from w base f x used fuel j
+    unfolding runFrom
     run-behind h f′ x′ ef ex w′ j′ r e =
-        let t : ran w′ j′ r ≡ runTail (drop n w) f x used fuel j = e ∙ (rw (tail-lent n w, ef, ex)) in
+        let t : ran w′ j′ r ≡ runTail from (drop n w) f x used fuel j = e ∙ (rw (tail-lent n w, ef, ex)) in
         ap (λ (l : List ℕ). ran l j′ r) (tail-home n w w′ h)
         ∙ ap (behind (take n w)) t
         ∙ (rw b (simp (le-ltb _ _ h)))

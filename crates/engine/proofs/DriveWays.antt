@@ -1,5 +1,5 @@
 -- One turn of the run's loop, by what its step came to, and what the loop keeps.
-use Prim.Native.Nat.{ℕ, zero, suc, _+_, _-_, _<_, _^_}
+use Prim.Native.Nat.{ℕ, zero, suc, _+_, _-_, _<_}
 use mathlib.Core.Path.{_≡_, ap, _∙_}
 use mathlib.Core.List.{List}
 use native.Mathlib.Omega.{arith}
@@ -53,6 +53,15 @@ pub record Driven (w₀ j₀ : List ℕ) (s₀ : State) (fuel : Fuel) (w j : Lis
   pub same : drive (rest .left) (rest .spent) w j s ≡ drive (fuel .left) (fuel .spent) w₀ j₀ s₀
   pub ready : Ready w s
   pub waits : Waits j (s .used) (s .waiting)
-  pub sum : rest .left + rest .spent < 2 ^ 32
+  pub sum : rest .left + rest .spent ≡ fuel .left + fuel .spent
   pub words-long : length w ≡ length w₀
   pub jobs-long : length j ≡ length j₀
+
+-- before the end there is fuel, and at the end there is none
+module _ {w₀ j₀ : List ℕ} {s₀ : State} {fuel : Fuel} {w j : List ℕ} {s : State} {rest : Fuel}
+    (driven : Driven w₀ j₀ s₀ fuel w j s rest) where
+  pub some-left : (rest .spent ≡ fuel .left + fuel .spent → ⊥) → 0 < rest .left
+  some-left h = omega (arith, h, driven .sum)
+
+  pub none-left : rest .spent ≡ fuel .left + fuel .spent → rest .left ≡ 0
+  none-left h = omega (arith, driven .sum)

@@ -1,4 +1,5 @@
 pub mod Cases
+pub mod CarryCases
 pub mod Keeps
 pub mod RuleWays
 pub mod StepWays

@@ -1,25 +1,26 @@
--- Every slot that a run answers is a used one.
+-- Every slot that a run or a carry-on answers is a used one.
 use Prim.Native.Nat.{ℕ, zero, suc}
-use mathlib.Core.Path.{_≡_, refl, sym, subst}
+use mathlib.Core.Path.{refl, subst}
 use mathlib.Core.List.{List}
 use native.Mathlib.Omega.{arith}
 use lib.Dec.{ltb}
 use lib.IntN.{ℤ, pos, negsuc}
 use lib.ListN.{length, take, drop}
-use Rattle.table.specs.Frames.{cleared}
 use Rattle.table.proofs.Tests.{by-test}
 use Rattle.table.proofs.SlotLaws.{room-most}
 use Rattle.engine.specs.declared.step.State.{State}
 use Rattle.engine.specs.declared.step.Status.{Status}
 use Rattle.engine.specs.declared.step.Status.the-variants.{Going, Done as IsDone, NoSlot, NoPlace}
+use Rattle.engine.specs.declared.From.{From}
 use Rattle.engine.specs.declared.Admission.{Admission}
 use Rattle.engine.specs.declared.Admission.the-variants.{Refused as NotLet, Start}
 use Rattle.engine.specs.Step.{Stepped, at, step}
 use Rattle.engine.specs.Ready.{Ready, Waits}
-use Rattle.engine.specs.Run.{Ran, ran, finished, stopped, resumeAs, resume, drive, admit, start, runTail, behind, run}
+use Rattle.engine.specs.Run.{Ran, ran, finished, stopped, resumeAs, resume, drive, admit, stepsOf}
+use Rattle.engine.specs.Run.{Begun, begun, begin, goesOn, start, runTail, behind, runFrom}
 use Rattle.engine.specs.Named.{Named, SlotsNamed}
 use Rattle.engine.proofs.Keeps.{Left, step-keeps}
-use Rattle.engine.proofs.CallWays.{start-ready, start-waits}
+use Rattle.engine.proofs.CallWays.{Let, let-all, Good, begin-good}
 
 abbrev Names : Ran → Type 0
 Names (ran w j a) = Named a
@@ -52,27 +53,29 @@ drive-named zero k w j s r h = stopped-named w s 31 k r
 drive-named (suc n) k w j s r h = resume-named (drive n) (drive-named n) k w s r (step w j s) (step-keeps w j s r h)
 
 -- the call
-module _ (w j : List ℕ) (f x : ℤ) (used fuel : ℕ) where
-  start-named : (a : Admission) → a ≡ admit w f x used → Names (start w fuel j a)
-  unfolding start
-  start-named (NotLet n) e = tt
-  start-named (Start s) e =
-      drive-named fuel 0 w (cleared j) s (start-ready w f x used (Start s) e s refl)
-      (start-waits w f x used (Start s) e s refl (cleared j))
+goes-named : (from : From) (w : List ℕ) (fuel : ℕ) (b : Begun) → Good w from fuel b → Names (goesOn from w fuel b)
+goes-named from w fuel (begun j (NotLet n)) h = tt
+goes-named from w fuel (begun j (Start s)) h = drive-named fuel (stepsOf from) w j s (h .0) (h .1)
 
-  tail-named : Names (runTail w f x used fuel j)
+module _ (from : From) (w j : List ℕ) (f x : ℤ) (used fuel : ℕ) where
+  start-named : (a : Admission) → Let w a → Names (start from w fuel j a)
+  unfolding start
+  start-named (NotLet n) h = tt
+  start-named (Start s) h = goes-named from w fuel (begin from s fuel j) (begin-good w from s fuel j (h .0) (h .1))
+
+  tail-named : Names (runTail from w f x used fuel j)
   unfolding runTail
-  tail-named = start-named (admit w f x used) refl
+  tail-named = start-named (admit w f x used) (let-all w f x used)
 
 behind-named : (before : List ℕ) (r : Ran) → Names r → Names (behind before r)
 behind-named before (ran w j a) n = n
 
-run-named : (w j : List ℕ) (base f x : ℤ) (used fuel : ℕ) → Names (run w base f x used fuel j)
-unfolding run
-run-named w j (negsuc b) f x used fuel = tt
-run-named w j (pos b) f x used fuel =
+run-named : (from : From) (w j : List ℕ) (base f x : ℤ) (used fuel : ℕ) → Names (runFrom from w base f x used fuel j)
+unfolding runFrom
+run-named from w j (negsuc b) f x used fuel = tt
+run-named from w j (pos b) f x used fuel =
     by-test Names (ltb (length w) b) (λ _. tt)
-    (λ _. behind-named (take b w) (runTail (drop b w) f x used fuel j) (tail-named (drop b w) j f x used fuel))
+    (λ _. behind-named (take b w) (runTail from (drop b w) f x used fuel j) (tail-named from (drop b w) j f x used fuel))
 
 pub slots-named : SlotsNamed
-slots-named w v j k base f x used fuel a e = subst Names e (run-named w j base f x used fuel)
+slots-named from w v j k base f x used fuel a e = subst Names e (run-named from w j base f x used fuel)

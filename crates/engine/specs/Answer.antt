@@ -1,4 +1,4 @@
--- The paper's numbers for each answer of the run call.
+-- The paper's numbers for each answer of a run or a carry-on.
 use Prim.Native.Nat.{ℕ}
 use lib.IntN.{ℤ, pos}
 use Rattle.engine.specs.declared.RunAnswer.{RunAnswer}

@@ -6,7 +6,8 @@ use lib.ListN.{replicate}
 use lib.IntN.{ℤ, pos, negsuc}
 use Rattle.engine.specs.declared.RunAnswer.{RunAnswer}
 use Rattle.engine.specs.declared.RunAnswer.the-variants.{Done, Stopped}
-use Rattle.engine.specs.Run.{Ran, ran, run}
+use Rattle.engine.specs.declared.From.the-variants.{Scratch}
+use Rattle.engine.specs.Run.{Ran, ran, runFrom}
 use Rattle.engine.specs.Answer.{Numbers, numbers}
 
 -- two words of the receiver's, then the slots of L, stem L, stem (stem L), I, stem I and D, then free words
@@ -46,7 +47,7 @@ seen (ran w j a) = record { words = w; frames = j; answer = numbers a }
 
 abbrev pub given : Case → Seen
 given c =
-    seen (run (c .of (replicate (c .free) 9)) (c .base) (c .f) (c .x) (c .used) (c .fuel) (replicate (c .jobs) 8))
+    seen (runFrom Scratch (c .of (replicate (c .free) 9)) (c .base) (c .f) (c .x) (c .used) (c .fuel) (replicate (c .jobs) 8))
 
 abbrev pub wanted : Case → Seen
 wanted c = record { words = c .of (c .words); frames = c .frames; answer = c .answer }
@@ -147,6 +148,6 @@ answerOf (ran w j a) = a
 abbrev pub AnswersHold : Type 0
 AnswersHold =
     -- D to D with 3 free slots: stop 32, f is L and x is D, 7 steps, 9 used slots, 2 jobs
-    (answerOf (run (table (replicate 6 9)) (pos 2) (pos 5) (pos 5) 6 100 (replicate 6 8)) ≡ Stopped 32 (pos 0) (pos 5) 7 9 2) ×
+    (answerOf (runFrom Scratch (table (replicate 6 9)) (pos 2) (pos 5) (pos 5) 6 100 (replicate 6 8)) ≡ Stopped 32 (pos 0) (pos 5) 7 9 2) ×
     -- L to L: the new slot, 1 step, 7 used slots
-    (answerOf (run (table (replicate 3 9)) (pos 2) (pos 0) (pos 0) 6 100 (replicate 2 8)) ≡ Done (pos 6) 1 7)
+    (answerOf (runFrom Scratch (table (replicate 3 9)) (pos 2) (pos 0) (pos 0) 6 100 (replicate 2 8)) ≡ Done (pos 6) 1 7)

@@ -5,3 +5,4 @@ pub mod Run
 pub mod Answer
 pub mod Named
 pub mod Cases
+pub mod CarryCases

@@ -1,5 +1,5 @@
--- The run call: what it answers, and every word that it leaves in both tables.
-use Prim.Native.Nat.{ℕ, zero, suc}
+-- The run call and the carry-on call: what they answer, and every word that they leave in both tables.
+use Prim.Native.Nat.{ℕ, zero, suc, _+_}
 use mathlib.Core.Bool.{cond}
 use mathlib.Core.List.{List, _++_}
 use lib.ListN.{length, take, drop}
@@ -10,9 +10,12 @@ use Rattle.table.specs.declared.slots.Place.the-variants.{At, Nowhere}
 use Rattle.table.specs.Slots.{room, place}
 use Rattle.table.specs.Sound.{sound}
 use Rattle.table.specs.Frames.{cleared}
+use Rattle.table.specs.SoundFrames.{framesSound}
 use Rattle.engine.specs.declared.step.State.{State}
 use Rattle.engine.specs.declared.step.Status.{Status}
 use Rattle.engine.specs.declared.step.Status.the-variants.{Going, Done as IsDone, NoSlot, NoPlace}
+use Rattle.engine.specs.declared.From.{From}
+use Rattle.engine.specs.declared.From.the-variants.{Scratch, Stop}
 use Rattle.engine.specs.declared.Admission.{Admission}
 use Rattle.engine.specs.declared.Admission.the-variants.{Refused as NotLet, Start}
 use Rattle.engine.specs.declared.RunAnswer.{RunAnswer}
@@ -61,22 +64,52 @@ admit w f x used =
     cond (eqb used 0) (NotLet 21)
     (cond (ltb (room w) used) (NotLet 21) (admitAt w used (place f used) (place x used)))
 
--- ---- the call
+-- ---- how a run begins
 
--- a refusal changes nothing; a run that is let start has its frame table zeroed first
-unfoldable pub start : List ℕ → ℕ → List ℕ → Admission → Ran
-start w fuel j (NotLet n) = ran w j (Refused n)
-start w fuel j (Start s) = drive fuel 0 w (cleared j) s
+-- the steps that were taken before
+abbrev pub stepsOf : From → ℕ
+stepsOf Scratch = 0
+stepsOf (Stop waiting steps) = steps
+
+-- the most steps that an answer can tell
+abbrev pub maxSteps : ℕ
+maxSteps = 4294967295
+
+-- the frame table then, and whether the run is let start
+pub data Begun : Type 0 where
+  begun : List ℕ → Admission → Begun
+
+-- A run from scratch has its frame table zeroed. One from a stop keeps it; 24, where its frames are not sound, and then 40, where
+-- earlier steps and fuel are too many.
+unfoldable pub begin : From → State → ℕ → List ℕ → Begun
+begin Scratch s fuel j = begun (cleared j) (Start s)
+begin (Stop waiting steps) s fuel j =
+    cond (framesSound (s .used) j waiting)
+    (cond (ltb maxSteps (steps + fuel)) (begun j (NotLet 40))
+    (begun j (Start (record { f = s .f; x = s .x; used = s .used; waiting = waiting }))))
+    (begun j (NotLet 24))
+
+-- ---- the calls
+
+-- a refusal changes nothing; else the loop goes on from there
+abbrev pub goesOn : From → List ℕ → ℕ → Begun → Ran
+goesOn from w fuel (begun j (NotLet n)) = ran w j (Refused n)
+goesOn from w fuel (begun j (Start s)) = drive fuel (stepsOf from) w j s
+
+-- by whether the slots let it start
+unfoldable pub start : From → List ℕ → ℕ → List ℕ → Admission → Ran
+start from w fuel j (NotLet n) = ran w j (Refused n)
+start from w fuel j (Start s) = goesOn from w fuel (begin from s fuel j)
 
 -- on the part of the table that is ours
-unfoldable pub runTail : List ℕ → ℤ → ℤ → ℕ → ℕ → List ℕ → Ran
-runTail w f x used fuel j = start w fuel j (admit w f x used)
+unfoldable pub runTail : From → List ℕ → ℤ → ℤ → ℕ → ℕ → List ℕ → Ran
+runTail from w f x used fuel j = start from w fuel j (admit w f x used)
 
 abbrev pub behind : List ℕ → Ran → Ran
 behind before (ran w j a) = ran (before ++ w) j a
 
 -- 21: base negative or past the end of the table
-unfoldable pub run : List ℕ → ℤ → ℤ → ℤ → ℕ → ℕ → List ℕ → Ran
-run w (negsuc b) f x used fuel j = ran w j (Refused 21)
-run w (pos b) f x used fuel j =
-    cond (ltb (length w) b) (ran w j (Refused 21)) (behind (take b w) (runTail (drop b w) f x used fuel j))
+unfoldable pub runFrom : From → List ℕ → ℤ → ℤ → ℤ → ℕ → ℕ → List ℕ → Ran
+runFrom from w (negsuc b) f x used fuel j = ran w j (Refused 21)
+runFrom from w (pos b) f x used fuel j =
+    cond (ltb (length w) b) (ran w j (Refused 21)) (behind (take b w) (runTail from (drop b w) f x used fuel j))

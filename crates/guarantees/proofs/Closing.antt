@@ -6,7 +6,7 @@ use Rattle.calculus.proofs.StepsSpent.{steps-spent}
 use Rattle.calculus.proofs.Stops.{stops-exactly}
 use Rattle.table.specs.Slots.{room}
 use Rattle.table.proofs.SoundFrames.{one-frame-list}
-use Rattle.engine.specs.Run.{run}
+use Rattle.engine.specs.Run.{runFrom}
 use Rattle.soundness.proofs.ExportCalls.{only-name, index-tells, only-index}
 use Rattle.soundness.proofs.Meaning as checks
 use Rattle.soundness.proofs.Skipped.{skipped-unread}
@@ -16,6 +16,7 @@ use Rattle.bundle_example.proofs.Cases.{leaf-sound}
 use Rattle.guarantees.specs.Closing.{OnlyRuns, Closing, Agreeing}
 use Rattle.guarantees.proofs.RefusalKeeps.{number-tells, one-answer}
 use Rattle.guarantees.proofs.SessionBlind.{session-blind}
+use Rattle.guarantees.proofs.FuelInParts.{no-fuel-keeps}
 use Rattle.guarantees.proofs.LoadSkips.{load-skips}
 use Rattle.guarantees.proofs.OneOrder.{one-order, one-start}
 use Rattle.guarantees.proofs.OnlyLoad.{only-load}
@@ -25,7 +26,7 @@ use Rattle.guarantees.proofs.Demands.{goes-on}
 
 only-runs : OnlyRuns
 only-runs call all file words words′ base exports exports′ n l requests bring =
-    only-session call run (l .at) (room (drop (l .at) words)) (record { words = drop (l .at) words′; used = n .nodes })
+    only-session call runFrom (l .at) (room (drop (l .at) words)) (record { words = drop (l .at) words′; used = n .nodes })
     (l .store) requests bring (all file words words′ base exports exports′ n l requests bring) (goes-on l requests bring)
 
 pub closing : Closing
@@ -62,4 +63,5 @@ agreeing =
       steps-spent = steps-spent;
       stops-exactly = stops-exactly;
       session-blind = session-blind;
+      no-fuel-keeps = no-fuel-keeps;
     }

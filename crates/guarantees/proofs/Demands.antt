@@ -7,7 +7,7 @@ use Rattle.calculus.proofs.Stops.{stop-numbers}
 use Rattle.table.specs.Slots.{room}
 use Rattle.table.proofs.SlotLaws.{room-long, room-is}
 use Rattle.table.proofs.FrameLaws.{job-room-is, job-words}
-use Rattle.engine.specs.Run.{run}
+use Rattle.engine.specs.Run.{runFrom}
 use Rattle.soundness.proofs.ExportCalls.{name-by-index, name-refused, name-bytes, name-in-file}
 use Rattle.soundness.proofs.ExportCalls.{index-by-name, no-such-name, empty-name, index-refused}
 use Rattle.soundness.proofs.Meaning as checks
@@ -23,6 +23,8 @@ use Rattle.guarantees.proofs.RefusedExactly.{refused-exactly}
 use Rattle.guarantees.proofs.BaseBlind.{base-blind}
 use Rattle.guarantees.proofs.RunSimulates.{run-simulates}
 use Rattle.guarantees.proofs.DoneStays.{done-stays}
+use Rattle.guarantees.proofs.FuelInParts.{fuel-in-parts}
+use Rattle.guarantees.proofs.StopsCarryOn.{stops-carry-on}
 use Rattle.guarantees.proofs.SessionSimulates.{session-simulates}
 use Rattle.guarantees.proofs.LoadAccepted.{accepted-exactly, load-number-exactly, load-refusal-keeps}
 use Rattle.guarantees.proofs.LoadBlind.{load-blind}
@@ -71,14 +73,14 @@ demand-2 =
 module _ {file words words′ : List ℕ} {base : ℤ} {exports exports′ : List ℕ} {n : Numbers}
     (l : Loads file words base exports words′ exports′ n) where
   pub goes-on : (requests : List Request) → Bring (l .at) requests →
-      AllAlike run (l .at) (room (drop (l .at) words)) (record { words = drop (l .at) words′; used = n .nodes })
+      AllAlike runFrom (l .at) (room (drop (l .at) words)) (record { words = drop (l .at) words′; used = n .nodes })
       (l .store) requests
   goes-on =
       let v = drop (l .at) words′ in
       rw (← room-long (drop (l .at) words) v (l .untouched .long))
-      (session-simulates run refused-exactly run-simulates v (n .nodes) (l .store) (l .holding) (l .at))
+      (session-simulates runFrom refused-exactly run-simulates v (n .nodes) (l .store) (l .holding) (l .at))
 
-all-runs : AllRuns run
+all-runs : AllRuns runFrom
 all-runs file words words′ base exports exports′ n l = goes-on l
 
 pub demand-3 : Demand3
@@ -89,4 +91,6 @@ demand-3 =
       stop-numbers = stop-numbers;
       jobs-sound = jobs-sound;
       done-stays = done-stays;
+      fuel-in-parts = fuel-in-parts;
+      stops-carry-on = stops-carry-on;
     }

@@ -15,4 +15,4 @@ agrees-sound {v = v} {k = k} (agrees-done h l) = standing-sound v _ k [] (l .pla
 agrees-sound {v = v} {k = k} (agrees-stop {frames = frames} f x s l) = standing-sound v _ k frames (l .places) s (l .above)
 
 pub jobs-sound : JobsSound
-jobs-sound w v j k base f x used fuel a e s = agrees-sound (begun w v j k base f x used fuel a s e .1)
+jobs-sound from w v j k base f x used fuel a e s = agrees-sound (begun from w v j k base f x used fuel a s e .1)

@@ -8,6 +8,7 @@ pub mod BaseBlind
 pub mod SameSteps
 pub mod DoneStays
 pub mod OneStore
+pub mod JobsIn
 pub mod SessionSimulates
 pub mod SessionBlind
 pub mod PlacingOrder
@@ -25,6 +26,8 @@ pub mod OnlyLoad
 pub mod Begins
 pub mod RunZero
 pub mod JobsSound
+pub mod FuelInParts
+pub mod StopsCarryOn
 pub mod OnlyRun
 pub mod OnlySession
 pub mod Demands

@@ -1,9 +1,8 @@
--- A call that keeps the promises of the run call does what it does: what refuses the one refuses the other, and what both let
+-- A call that keeps the promises of the run call or of the carry-on call does what it does: what refuses the one refuses the other, and what both let
 -- start comes to one outcome of the machine.
 use Prim.Native.Nat.{ℕ, _+_, _*_, _<_}
 use mathlib.Core.Path.{_≡_, refl, sym, _∙_, subst}
 use mathlib.Core.List.{List, [], _++_}
-use mathlib.Core.Logic.{inl, inr}
 use native.Mathlib.Omega.{arith}
 use lib.ListN.{length, drop, length-append}
 use lib.IntN.{ℤ}
@@ -14,14 +13,15 @@ use Rattle.table.specs.Holds.{StandFrom}
 use Rattle.table.proofs.HoldsLaws.{from-kept, from-append, untouched-refl, untouched-kept}
 use Rattle.table.proofs.SoundFrames.{standing-sound}
 use Rattle.engine.specs.declared.RunAnswer.the-variants.{Refused}
-use Rattle.engine.specs.Run.{Ran, ran, run}
+use Rattle.engine.specs.Run.{Ran, ran, runFrom}
+use Rattle.engine.specs.declared.From.{From}
 use Rattle.engine.specs.Answer.{Numbers}
 use Rattle.guarantees.specs.Agrees.{Leaves, Agrees, agrees-done, agrees-stop}
-use Rattle.guarantees.specs.Run.{RunCall, RunSimulates, RefusedExactly, RefusedWith}
+use Rattle.guarantees.specs.Run.{RunCall, SimulatesFrom, RefusedFrom, RefusedWith}
 use Rattle.guarantees.specs.OnlyRun.{SameSince, SameTables, SameEnd, same-done, same-stop}
 use Rattle.guarantees.specs.OnlyRun.{SameCall, both-refused, both-ended, OnlyRun}
 use Rattle.guarantees.proofs.RunSimulates.{run-simulates}
-use Rattle.guarantees.proofs.Verdict.{out, misplaced, damaged, started, Judged, verdict}
+use Rattle.guarantees.proofs.Verdict.{out, misplaced, damaged, too-many, started, Judged, verdict}
 use Rattle.guarantees.proofs.Begins.{Begins, begins, comes}
 
 -- ---- both end
@@ -76,10 +76,10 @@ module _ {w w′ j v k v′ k′ : List ℕ} {n q : ℕ} (s : SameSince n q w w�
   same-end (agrees-stop {frames = frames} f x s l) (agrees-stop f′ x′ s′ l′) =
       same-stop f f′ x x′ (same-tables frames s l s′ l′)
 
--- ---- a call against the run call
+-- ---- a call against ours
 
-module _ (call : RunCall) (refuses : RefusedExactly call) (simulates : RunSimulates call) (w j : List ℕ) (base f x : ℤ)
-    (used fuel : ℕ) where
+module _ (from : From) (call : RunCall) (refuses : RefusedFrom from call) (simulates : SimulatesFrom from call) (w j : List ℕ)
+    (base f x : ℤ) (used fuel : ℕ) where
   abbrev other : Ran
   other = call w base f x used fuel j
 
@@ -88,20 +88,23 @@ module _ (call : RunCall) (refuses : RefusedExactly call) (simulates : RunSimula
   alike n (ran v k a) (e, p, q) = rw (p, q) (both-refused {a = a} {a′ = Refused n} e refl)
 
   -- both are let start
-  begun : Begins w base f x used → SameCall w j used base other (run w base f x used fuel j)
+  begun : Begins from w j base f x used fuel → SameCall w j used base other (runFrom from w base f x used fuel j)
   begun s =
-      let (v, k, a, e, agrees) = comes s fuel j call simulates in
-      let (v′, k′, a′, e′, agrees′) = comes s fuel j run run-simulates in
+      let (v, k, a, e, agrees) = comes s call simulates in
+      let (v′, k′, a′, e′, agrees′) = comes s (runFrom from) (run-simulates from) in
       rw (e, e′) (both-ended {b = s .at} {a = a} {a′ = a′} (s .base-is)
       (same-end (since-start used (drop (s .at) w)) agrees agrees′))
 
-  judged : (r : Ran) → run w base f x used fuel j ≡ r → Judged w j base f x used r → SameCall w j used base other r
+  judged : (r : Ran) → runFrom from w base f x used fuel j ≡ r → Judged from w j base f x used fuel r
+      → SameCall w j used base other r
   judged r e (out o) = alike 21 other (refuses w j base f x used fuel .0 .1 o)
   judged r e (misplaced o m) = alike 23 other (refuses w j base f x used fuel .1 .1 (o, m))
-  judged r e (damaged o m d) =
-      alike 24 other (refuses w j base f x used fuel .2 .1 (o, λ h. m (inl h), λ h. m (inr h), d))
-  judged r e (started o m d h) = subst (SameCall w j used base other) e (begun (begins w base f x used o m d))
+  judged r e (damaged o m d) = alike 24 other (refuses w j base f x used fuel .2 .1 (o, m, d))
+  judged r e (too-many o m d n) = alike 40 other (refuses w j base f x used fuel .3 .1 (o, m, d, n))
+  judged r e (started o m d n h) =
+      subst (SameCall w j used base other) e (begun (begins from w j base f x used fuel o m d n))
 
 pub only-run : OnlyRun
-only-run call refuses simulates w j base f x used fuel =
-    judged call refuses simulates w j base f x used fuel (run w base f x used fuel j) refl (verdict w j base f x used fuel)
+only-run from call refuses simulates w j base f x used fuel =
+    judged from call refuses simulates w j base f x used fuel (runFrom from w base f x used fuel j) refl
+    (verdict from w j base f x used fuel)

@@ -9,7 +9,7 @@ use Rattle.calculus.specs.Machine.{Outcome}
 use Rattle.engine.specs.Run.{Ran}
 use Rattle.engine.specs.Answer.{Numbers}
 use Rattle.guarantees.specs.Agrees.{Agrees, agrees-done, agrees-stop}
-use Rattle.guarantees.specs.Run.{RunCall}
+use Rattle.guarantees.specs.Run.{Calls}
 use Rattle.guarantees.specs.Session.{Request, beforeOf, Bring, Reply, reply, storeAfter, Table, answer, tableAfter}
 use Rattle.guarantees.specs.Session.{Alike, alike-refused, alike-answered, AllAlike}
 use Rattle.guarantees.specs.OnlyRun.{SameSince, SameAnswer, refused-alike, ended-alike, SameAll, OnlySession}
@@ -53,7 +53,7 @@ module _ (b n : ℕ) where
           },
         )
 
-module _ (call other : RunCall) (b n most : ℕ) where
+module _ (call other : Calls) (b n most : ℕ) where
   same-all : (cs : List Request) (t t′ : Table) (store : List Tree) → Pair b n t t′ → Bring b cs
       → AllAlike call b most t store cs → AllAlike other b most t′ store cs → SameAll call other b n t t′ cs
   same-all [] t t′ store pair bring h h′ = (pair .used, pair .since)

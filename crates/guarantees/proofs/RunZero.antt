@@ -10,7 +10,8 @@ use Rattle.calculus.specs.Machine.{Outcome}
 use Rattle.table.specs.Slots.{room}
 use Rattle.table.specs.Holds.{Holds, holds-leaf}
 use Rattle.engine.specs.declared.RunAnswer.{RunAnswer}
-use Rattle.engine.specs.Run.{ran, run}
+use Rattle.engine.specs.Run.{ran, runFrom}
+use Rattle.engine.specs.declared.From.{From}
 use Rattle.engine.specs.Answer.{Numbers, numbers}
 use Rattle.guarantees.specs.Agrees.{Agrees, agrees-done, agrees-stop}
 use Rattle.guarantees.specs.Run.{started}
@@ -25,8 +26,8 @@ agrees-zero : {w j v k : List ℕ} {n : ℕ} {a : Numbers} {o : Outcome} → Agr
 agrees-zero (agrees-done h l) = leaf-in (l .slots .fits) (l .zero)
 agrees-zero (agrees-stop f x s l) = leaf-in (l .slots .fits) (l .zero)
 
-pub run-zero : (words words′ jobs jobs′ : List ℕ) (base f x : ℤ) (used fuel : ℕ) (a : RunAnswer) →
-    run words base f x used fuel jobs ≡ ran words′ jobs′ a → started (numbers a) ≡ true → ZeroIsLeaf base words′
-run-zero w v j k base f x used fuel a e s =
-    let (b, agrees) = begun w v j k base f x used fuel a s e in
+pub run-zero : (from : From) (words words′ jobs jobs′ : List ℕ) (base f x : ℤ) (used fuel : ℕ) (a : RunAnswer) →
+    runFrom from words base f x used fuel jobs ≡ ran words′ jobs′ a → started (numbers a) ≡ true → ZeroIsLeaf base words′
+run-zero from w v j k base f x used fuel a e s =
+    let (b, agrees) = begun from w v j k base f x used fuel a s e in
     (b .at, b .base-is, agrees-zero agrees)

@@ -1,10 +1,10 @@
--- What stands before the base at a request changes nothing: each call is one and the same run on our part.
+-- What stands before the base at a request changes nothing: each call is one and the same on our part.
 use Prim.Native.Nat.{ℕ}
 use mathlib.Core.Path.{_≡_, refl}
 use mathlib.Core.List.{List, [], _∷_, map}
 use lib.ListN.{length}
 use lib.Seq.{drop-append-seam}
-use Rattle.engine.specs.Run.{Ran, ran, run, runTail, behind}
+use Rattle.engine.specs.Run.{Ran, ran, runTail, behind, runFrom}
 use Rattle.guarantees.specs.Session.{Request, to-run, Bring, Table, answer, tableAfter}
 use Rattle.guarantees.specs.Session.{bare, fromBase, leftBy, SessionBlind}
 use Rattle.guarantees.proofs.Calls.{run-behind}
@@ -17,15 +17,15 @@ module _ (before : List ℕ) (t : Table) where
   same-table (ran v k a) = rw (drop-append-seam before v)
 
 module _ (b : ℕ) where
-  blind : (t : Table) (cs : List Request) → Bring b cs → leftBy run b t cs ≡ leftBy run 0 t (map bare cs)
+  blind : (t : Table) (cs : List Request) → Bring b cs → leftBy runFrom b t cs ≡ leftBy runFrom 0 t (map bare cs)
   blind t [] bring = refl
   blind t (to-run c ∷ cs) (long, bring) =
-      let r = runTail (t .words) (c .f) (c .x) (t .used) (c .fuel) (c .jobs) in
-      let p : answer run b t (to-run c) ≡ behind (c .before) r
-      = rw (← long) (run-behind (c .before) (t .words) (c .jobs) (c .f) (c .x) (t .used) (c .fuel))
+      let r = runTail (c .from) (t .words) (c .f) (c .x) (t .used) (c .fuel) (c .jobs) in
+      let p : answer runFrom b t (to-run c) ≡ behind (c .before) r
+      = rw (← long) (run-behind (c .from) (c .before) (t .words) (c .jobs) (c .f) (c .x) (t .used) (c .fuel))
       in
-      let q : answer run 0 t (bare (to-run c)) ≡ behind [] r
-      = run-behind [] (t .words) (c .jobs) (c .f) (c .x) (t .used) (c .fuel)
+      let q : answer runFrom 0 t (bare (to-run c)) ≡ behind [] r
+      = run-behind (c .from) [] (t .words) (c .jobs) (c .f) (c .x) (t .used) (c .fuel)
       in
       let d : fromBase b (behind (c .before) r) ≡ fromBase 0 (behind [] r) = rw (← long) (same-left (c .before) t r) in
       let e : tableAfter b t (behind (c .before) r) ≡ tableAfter 0 t (behind [] r)

@@ -1,31 +1,36 @@
 -- One request goes alike and leaves used slots that hold the grown store; a list of them by induction.
-use Prim.Native.Nat.{ℕ, _+_, _-_, _≤_, _<_}
+use Prim.Native.Nat.{ℕ, _+_, _-_, _<_}
 use mathlib.Core.Path.{_≡_, refl, sym, ap, _∙_}
-use mathlib.Core.Bool.{Bool, true, cond}
-use mathlib.Core.Logic.{_⊎_, inl, inr}
+use mathlib.Core.Bool.{true, false, false≢true}
+use mathlib.Core.Logic.{_⊎_, inl, inr, ⊎-elim}
 use mathlib.Core.List.{List, [], _∷_, _++_}
 use native.Mathlib.Omega.{arith}
-use native.Mathlib.Decide.{decLt}
-use lib.ListN.{length, getD, drop, length-append}
+use lib.ListN.{length, drop, length-append}
 use lib.Seq.{drop-append-seam}
-use lib.IntN.{ℤ, pos, negsuc}
-use borrow.Author.Tests.{lt-ltb, le-ltb}
-use Rattle.calculus.specs.Tree.{Tree, leaf}
-use Rattle.calculus.specs.Machine.{Stop, no-fuel, no-slot, no-place, stopNumber, Outcome}
+use lib.IntN.{ℤ, pos}
+use borrow.Author.Tests.{ltb-true, ltb-false}
+use Rattle.calculus.specs.Tree.{Tree}
+use Rattle.calculus.specs.Rules.{Frame}
+use Rattle.calculus.specs.Machine.{Stop as Reason, no-fuel, no-slot, no-place, stopNumber, Outcome}
 use Rattle.table.specs.Slots.{room}
-use Rattle.table.specs.Frames.{frameRoom}
 use Rattle.table.specs.Holds.{Holds}
+use Rattle.table.proofs.Tests.{by-test}
 use Rattle.table.proofs.SlotLaws.{room-long}
-use Rattle.table.proofs.HoldsLaws.{from-kept, from-at, from-append, untouched-kept}
+use Rattle.table.proofs.HoldsLaws.{held-below, from-kept, from-append, untouched-kept}
 use Rattle.engine.specs.declared.RunAnswer.{RunAnswer}
 use Rattle.engine.specs.Run.{Ran, ran}
+use Rattle.engine.specs.declared.From.{From}
+use Rattle.engine.specs.declared.From.the-variants.{Scratch, Stop}
 use Rattle.engine.specs.Answer.{Numbers, numbers}
 use Rattle.guarantees.specs.Agrees.{Leaves, Agrees, agrees-done, agrees-stop}
-use Rattle.guarantees.specs.Run.{RunCall, RunSimulates, RefusedExactly, refusal, RefusedWith, started}
-use Rattle.guarantees.specs.Run.{OutOfTable, base-past, none-used, above-room, Misplaced, negative, not-used}
-use Rattle.guarantees.specs.Session.{ToRun, Request, to-run, Bring, Found, found, nowhere, lookUp, Reply, refused, answered}
-use Rattle.guarantees.specs.Session.{replyTo, reply, storeAfter, Table, answer, tableAfter}
+use Rattle.guarantees.specs.Run.{RunCall, Calls, TooMany, SimulatesFrom, RunSimulates, RefusedFrom, RefusedExactly, refusal, RefusedWith, started}
+use Rattle.guarantees.specs.Run.{OutOfTable, base-past, none-used, above-room, Misplaced, Damaged}
+use Rattle.guarantees.specs.Session.{ToRun, Request, to-run, Bring, Found, found, Reply, refused, answered}
+use Rattle.guarantees.specs.Session.{framesIn, tooMany, replyTo, reply, storeAfter, Table, answer, tableAfter}
 use Rattle.guarantees.specs.Session.{Alike, alike-refused, alike-answered, Holding, AllAlike, SessionSimulates}
+use Rattle.guarantees.proofs.RunSimulates.{unharmed}
+use Rattle.guarantees.proofs.Verdict.{used-placed}
+use Rattle.guarantees.proofs.JobsIn.{PlaceSeen, held, unplaced, place-seen, FramesSeen, waits, harmed, frames-seen}
 
 module _ {w j v k : List ℕ} {n : ℕ} where
   -- a run that agrees answers a used count that grows by the nodes made, and leaves the tables so
@@ -53,7 +58,7 @@ module _ {w j v k : List ℕ} {n : ℕ} where
       }
 
 -- a run that agrees was let start
-stop-starts : (why : Stop) → started (refusal (stopNumber why)) ≡ true
+stop-starts : (why : Reason) → started (refusal (stopNumber why)) ≡ true
 stop-starts no-fuel = refl
 stop-starts no-slot = refl
 stop-starts no-place = refl
@@ -62,29 +67,19 @@ pub agrees-starts : {w j v k : List ℕ} {n : ℕ} {a : Numbers} {o : Outcome} �
 agrees-starts (agrees-done h l) = refl
 agrees-starts (agrees-stop {why = why} f x s l) = stop-starts why
 
-no-argument : (p : Found) (fuel free places : ℕ) → refused 23 ≡ replyTo p nowhere fuel free places
-no-argument (found f) fuel free places = refl
-no-argument nowhere fuel free places = refl
+-- the test of the steps
+too-many : (from : From) (fuel : ℕ) → tooMany from fuel ≡ true → TooMany from fuel
+too-many Scratch fuel e = absurd (false≢true e)
+too-many (Stop waiting steps) fuel e = ltb-true 4294967295 (steps + fuel) e
+
+not-too-many : (from : From) (fuel : ℕ) → tooMany from fuel ≡ false → TooMany from fuel → ⊥
+not-too-many Scratch fuel e h = h
+not-too-many (Stop waiting steps) fuel e h = omega (arith, ltb-false 4294967295 (steps + fuel) e)
 
 module _ (w : List ℕ) (n : ℕ) (store : List Tree) (good : Holding w n store) where
-  -- a number names a place of the store, or is refused on both sides
-  data Seen : ℤ → Type 0 where
-    within : (i : ℕ) → i < length store → Seen (pos i)
-    outside : {z : ℤ} → Misplaced n z → lookUp store z ≡ nowhere → Seen z
-
-  seen : (z : ℤ) → Seen z
-  seen (pos i) =
-      elim (decLt i (length store)) [
-        | yes l ↦ within i l
-        | no l ↦
-            let g : length store ≤ i = omega (arith, l) in
-            outside (not-used {i = i} (omega (arith, good .long)))
-            (ap (λ (t : Bool). cond t (found (getD store i leaf)) nowhere) (le-ltb i (length store) g))
-      ]
-  seen (negsuc i) = outside negative refl
-
-  held : (i : ℕ) → i < length store → Holds w n i (getD store i leaf)
-  held i l = from-at w n 0 i i store (omega arith) l (good .each)
+  -- the used slots are no reason against it
+  whole : (before : List ℕ) → Damaged (before ++ w) (pos (length before)) n → ⊥
+  whole before (i, l, e) = e (rw (drop-append-seam before w) (good .slots .each i l))
 
   in-table : (before : List ℕ) → OutOfTable (before ++ w) (pos (length before)) n → ⊥
   in-table before (base-past h) = omega (arith, length-append before w)
@@ -102,17 +97,17 @@ module _ (w : List ℕ) (n : ℕ) (store : List Tree) (good : Holding w n store)
     holding : Holding (tableAfter b table r .words) (tableAfter b table r .used) (storeAfter store p)
     same-room : room (tableAfter b table r .words) ≡ room w
 
-  module _ (call : RunCall) (refuses : RefusedExactly call) (simulates : RunSimulates call) (c : ToRun) where
+  module _ (c : ToRun) where
     abbrev b : ℕ
     b = length (c .before)
 
-    goes-refused : (r : Ran) → RefusedWith 23 (c .before ++ w) (c .jobs) r → Goes b (to-run c) r (refused 23)
-    goes-refused (ran v k a) (e, p, q) =
+    goes-refused : (m : ℕ) → started (refusal m) ≡ false → (r : Ran) → RefusedWith m (c .before ++ w) (c .jobs) r
+        → Goes b (to-run c) r (refused m)
+    goes-refused m z (ran v k a) (e, p, q) =
         let d : drop b v ≡ w = ap (drop b) p ∙ drop-append-seam (c .before) w in
         record {
-          alike =
-              rw (p, q) (alike-refused {a = a} {n = 23} e refl);
-          holding = rw (d, e) good;
+          alike = rw (p, q) (alike-refused {a = a} {n = m} e z);
+          holding = rw (d, e, z) good;
           same-room = ap room d;
         }
 
@@ -130,40 +125,59 @@ module _ (w : List ℕ) (n : ℕ) (store : List Tree) (good : Holding w n store)
           same-room = ap room d ∙ room-long w v (l .untouched .long);
         }
 
-    -- the call and the machine, for these numbers in the place of the request's
-    module _ (z y : ℤ) where
-      abbrev left : Ran
-      left = call (c .before ++ w) (pos b) z y n (c .fuel) (c .jobs)
+    module _ (call : RunCall) (refuses : RefusedFrom (c .from) call) (simulates : SimulatesFrom (c .from) call) where
+      abbrev left : ℤ → ℤ → Ran
+      left z y = call (c .before ++ w) (pos b) z y n (c .fuel) (c .jobs)
 
-      abbrev said : Reply
-      said = replyTo (lookUp store z) (lookUp store y) (c .fuel) (room w - length store) (frameRoom (c .jobs))
-
-      goes-outside : Misplaced n z ⊎ Misplaced n y → refused 23 ≡ said → Goes b (to-run c) left said
-      goes-outside m e =
+      goes-misplaced : (z y : ℤ) → Misplaced n z ⊎ Misplaced n y → Goes b (to-run c) (left z y) (refused 23)
+      goes-misplaced z y m =
           let x = refuses (c .before ++ w) (c .jobs) (pos b) z y n (c .fuel) in
-          rw (← e) (goes-refused left (x .1 .1 (in-table (c .before), m)))
+          goes-refused 23 refl (left z y) (x .1 .1 (in-table (c .before), m))
 
-    goes-at : (z y : ℤ) → Seen z → Seen y → Goes b (to-run c) (left z y) (said z y)
-    goes-at _ _ (within i l) (within m g) =
-        let s = simulates (c .before) w (c .jobs) n i m (c .fuel) _ _ (good .slots) (held i l) (held m g) in
-        rw (lt-ltb i (length store) l, lt-ltb m (length store) g, good .long, s .3)
-        (goes-answered (s .0) (s .1) (s .2) _ (s .4))
-    goes-at z y (within i l) (outside m e) =
-        goes-outside z y (inr m)
-        (rw e (no-argument (lookUp store z) (c .fuel) (room w - length store) (frameRoom (c .jobs))))
-    goes-at z y (outside m e) s = goes-outside z y (inl m) (rw e)
+      -- f and x are places of the store
+      module _ {i m : ℕ} {ft xt : Tree} (hf : Holds w n i ft) (hx : Holds w n m xt) where
+        well : Misplaced n (pos i) ⊎ Misplaced n (pos m) → ⊥
+        well = ⊎-elim (used-placed refl (held-below hf)) (used-placed refl (held-below hx))
 
-    goes : Goes b (to-run c) (answer call b table (to-run c)) (reply (room w) store (to-run c))
-    goes = goes-at (c .f) (c .x) (seen (c .f)) (seen (c .x))
+        goes-placed : (p : Found (List Frame)) → FramesSeen w n store good (c .from) (c .jobs) p
+            → Goes b (to-run c) (left (pos i) (pos m)) (replyTo c (room w - length store) (found ft) (found xt) p)
+        goes-placed p (harmed h) =
+            let x = refuses (c .before ++ w) (c .jobs) (pos b) (pos i) (pos m) n (c .fuel) in
+            goes-refused 24 refl (left (pos i) (pos m)) (x .2 .1 (in-table (c .before), well, inr h))
+        goes-placed p (waits {fs = fs} h) =
+            let x = refuses (c .before ++ w) (c .jobs) (pos b) (pos i) (pos m) n (c .fuel) in
+            let fine = ⊎-elim (whole (c .before)) (unharmed (c .from) w (c .jobs) n fs h) in
+            by-test (Goes b (to-run c) (left (pos i) (pos m))) (tooMany (c .from) (c .fuel))
+            (λ t. goes-refused 40 refl (left (pos i) (pos m))
+            (x .3 .1 (in-table (c .before), well, fine, too-many (c .from) (c .fuel) t)))
+            (λ t.
+            let s
+            = simulates (c .before) w (c .jobs) n i m (c .fuel) ft xt fs (good .slots) hf hx h
+            (not-too-many (c .from) (c .fuel) t)
+            in
+            rw (good .long, s .3) (goes-answered (s .0) (s .1) (s .2) _ (s .4)))
 
-module _ (call : RunCall) (refuses : RefusedExactly call) (simulates : RunSimulates call) (b : ℕ) where
+      -- whatever f and x are
+      goes-at : {z y : ℤ} {p q : Found Tree} → PlaceSeen w n store good z p → PlaceSeen w n store good y q
+          → (r : Found (List Frame)) → FramesSeen w n store good (c .from) (c .jobs) r
+          → Goes b (to-run c) (left z y) (replyTo c (room w - length store) p q r)
+      goes-at (held hf) (held hx) r h = goes-placed hf hx r h
+      goes-at {z} {y} (held hf) (unplaced m) r h = goes-misplaced z y (inr m)
+      goes-at {z} {y} (unplaced m) s r h = goes-misplaced z y (inl m)
+
+      goes : Goes b (to-run c) (left (c .f) (c .x)) (reply (room w) store (to-run c))
+      goes =
+          goes-at (place-seen w n store good (c .f)) (place-seen w n store good (c .x)) (framesIn store (c .from) (c .jobs))
+          (frames-seen w n store good (c .from) (c .jobs))
+
+module _ (call : Calls) (refuses : RefusedExactly call) (simulates : RunSimulates call) (b : ℕ) where
   all-alike : (cs : List Request) (w : List ℕ) (n most : ℕ) (store : List Tree)
       → Holding w n store → most ≡ room w → Bring b cs
       → AllAlike call b most (record { words = w; used = n }) store cs
   all-alike [] w n most store good e bring = (good, sym e)
   all-alike (to-run c ∷ cs) w n most store good e bring =
       let long : length (c .before) ≡ b = bring .0 in
-      let g = rw long at (goes w n store good call refuses simulates c) in
+      let g = rw long at (goes w n store good c (call (c .from)) (refuses (c .from)) (simulates (c .from))) in
       let t : Table = record { words = w; used = n } in
       let t′ = tableAfter b t (answer call b t (to-run c)) in
       rw e (

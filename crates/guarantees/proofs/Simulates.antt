@@ -39,6 +39,7 @@ use Rattle.engine.specs.Run.{Ran, ran, resume, drive}
 use Rattle.engine.specs.Run as engine
 use Rattle.engine.specs.Answer.{Numbers, numbers}
 use Rattle.guarantees.specs.Agrees.{Leaves, Agrees, agrees-done, agrees-stop}
+use Rattle.guarantees.specs.Run.{later}
 
 -- ---- the waiting frames
 
@@ -50,7 +51,7 @@ FramesHold w n j (suc k) [] = ⊥
 FramesHold w n j (suc k) (f ∷ fs) = Stands w n (recordAt j k) f × FramesHold w n j k fs
 
 module _ (w : List ℕ) (n : ℕ) (j : List ℕ) where
-  frames-count : (k : ℕ) (fs : List Frame) → FramesHold w n j k fs → length fs ≡ k
+  pub frames-count : (k : ℕ) (fs : List Frame) → FramesHold w n j k fs → length fs ≡ k
   frames-count zero [] h = refl
   frames-count zero (f ∷ fs) h = absurd h
   frames-count (suc k) [] h = absurd h
@@ -83,13 +84,29 @@ module _ (w : List ℕ) (n : ℕ) (j : List ℕ) where
       (h .0, stand-snoc (suc k) fs f (h .1) (rw e at g))
 
   -- the same frames, oldest first
-  frames-turned : (k : ℕ) (fs : List Frame) → FramesHold w n j k fs → StandFrom w n j 0 (reverse fs)
+  pub frames-turned : (k : ℕ) (fs : List Frame) → FramesHold w n j k fs → StandFrom w n j 0 (reverse fs)
   frames-turned zero [] h = tt
   frames-turned zero (f ∷ fs) h = absurd h
   frames-turned (suc k) [] h = absurd h
   frames-turned (suc k) (f ∷ fs) h =
       let e : 0 + length (reverse fs) ≡ k = omega (arith, length-reverse fs, frames-count k fs (h .1)) in
       rw (reverse-cons f fs) (stand-snoc 0 (reverse fs) f (frames-turned k fs (h .1)) (rw e (h .0)))
+
+  stand-unsnoc : (k : ℕ) (fs : List Frame) (f : Frame) → StandFrom w n j k (fs ++ (f ∷ [])) →
+      StandFrom w n j k fs × Stands w n (recordAt j (k + length fs)) f
+  stand-unsnoc k [] f h = let e : k + 0 ≡ k = omega arith in (tt, rw e (h .0))
+  stand-unsnoc k (a ∷ fs) f h =
+      let e : k + suc (length fs) ≡ suc k + length fs = omega arith in
+      let (hs, g) = stand-unsnoc (suc k) fs f (h .1) in
+      ((h .0, hs), rw e g)
+
+  -- and back: frames that stand oldest first, newest first
+  pub frames-back : (fs : List Frame) → StandFrom w n j 0 (reverse fs) → FramesHold w n j (length fs) fs
+  frames-back [] h = tt
+  frames-back (f ∷ fs) h =
+      let (hs, g) = stand-unsnoc 0 (reverse fs) f (rw (reverse-cons f fs) at h) in
+      let e : 0 + length (reverse fs) ≡ length fs = omega (arith, length-reverse fs) in
+      (rw e at g, frames-back fs hs)
 
 -- ---- what stands for what
 
@@ -103,7 +120,7 @@ pub record Sim (w j : List ℕ) (s : State) (p : machine.State) : Type 0 where
   pub above : ZeroFrom j (s .waiting)
 
 -- v is w, of which n slots were used, with these nodes in the slots from n up to m
-record Grown (w : List ℕ) (n : ℕ) (v : List ℕ) (m : ℕ) (made : List Tree) : Type 0 where
+pub record Grown (w : List ℕ) (n : ℕ) (v : List ℕ) (m : ℕ) (made : List Tree) : Type 0 where
   count : m ≡ n + length made
   new : HoldsFrom v m n made
   untouched : Untouched w n v m
@@ -180,7 +197,7 @@ module _ (w : List ℕ) (n : ℕ) where
 -- ---- a step
 
 -- what a step from s leaves stands for what the machine's step leaves
-data Turns (w j : List ℕ) (s : State) : Stepped → machine.Turn → Type 0 where
+pub data Turns (w j : List ℕ) (s : State) : Stepped → machine.Turn → Type 0 where
   turns-going : {v k : List ℕ} {next : State} {made : List Tree} {p : machine.State}
       → Grown w (s .used) v (next .used) made → length k ≡ length j → Sim v k next p
       → Turns w j s (at v k (record { status = Going; state = next })) (machine.going made p)
@@ -289,17 +306,13 @@ module _ (w j : List ℕ) (s : State) (p : machine.State) (sim : Sim w j s p) wh
       ]
 
   -- a step
-  steps : Turns w j s (step w j s) (machine.step (room w - s .used) (frameRoom j) p)
+  pub steps : Turns w j s (step w j s) (machine.step (room w - s .used) (frameRoom j) p)
   unfolding step machine.step
   steps =
       carries (rule w (s .f) (s .x)) (trees.rule (p .f) (p .x))
       (asks w (s .used) (p .f) (p .x) (s .f .0) (s .x .0) (sim .f) (sim .x))
 
 -- ---- a run
-
--- the outcome of a run that has done k steps before
-abbrev pub later : ℕ → Outcome → Outcome
-later k o = record { ending = o .ending; steps = k + o .steps; made = o .made }
 
 -- what a run leaves and answers agrees with an outcome
 abbrev pub Comes : List ℕ → ℕ → List ℕ → Ran → Outcome → Type 0

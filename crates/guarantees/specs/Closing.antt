@@ -7,27 +7,28 @@ use lib.IntN.{ℤ}
 use Rattle.calculus.specs.Laws as machine
 use Rattle.calculus.specs.Cases.{CasesHold, FurtherHold}
 use Rattle.table.specs.SoundFrames.{OneFrameList}
-use Rattle.engine.specs.Run.{run}
+use Rattle.engine.specs.Run.{runFrom}
 use Rattle.soundness.specs.Sound.{Sound}
 use Rattle.soundness.specs.Meaning as checks
 use Rattle.soundness.specs.ExportCalls.{OnlyName, IndexTells, OnlyIndex}
 use Rattle.soundness.specs.Skipped.{SkippedUnread}
 use Rattle.soundness.specs.NodesMeaning.{HashedBytes, LongestReached}
 use Rattle.loader.specs.Answer.{Numbers}
-use Rattle.guarantees.specs.Run.{RunCall, NumberTells, OneAnswer}
+use Rattle.guarantees.specs.Run.{Calls, NumberTells, OneAnswer}
+use Rattle.guarantees.specs.Onward.{NoFuelKeeps}
 use Rattle.guarantees.specs.OnlyRun.{OnlyRun, SameAll}
 use Rattle.guarantees.specs.Session.{Request, Bring, Table, SessionBlind}
 use Rattle.guarantees.specs.Load.{Loads, OnlyLoad, OneOrder, OneStart, LoadSkips}
 use Rattle.guarantees.specs.Demands.{AllRuns}
 
--- A call for which demand 3 holds goes the same as the run call over every list after an accepted load.
+-- Calls for which demand 3 holds go the same as the run call and the carry-on call over every list after an accepted load.
 abbrev pub OnlyRuns : Type 0
 OnlyRuns =
-    (call : RunCall) → AllRuns call →
+    (calls : Calls) → AllRuns calls →
     (file words words′ : List ℕ) (base : ℤ) (exports exports′ : List ℕ) (n : Numbers) →
     (l : Loads file words base exports words′ exports′ n) (requests : List Request) → Bring (l .at) requests →
     let t : Table = record { words = drop (l .at) words′; used = n .nodes } in
-    SameAll call run (l .at) (n .nodes) t t requests
+    SameAll calls runFrom (l .at) (n .nodes) t t requests
 
 -- Nothing is left open: no other call keeps the promises that the demands make of it.
 pub record Closing : Type 0 where
@@ -36,7 +37,7 @@ pub record Closing : Type 0 where
   pub only-check : checks.OnlyCheck
   pub only-name : OnlyName
   pub only-index : OnlyIndex
-  -- of a run, but for which of two slots with one tree is named: of single calls, and of all lists
+  -- of a run and of a carry-on, but for which of two slots with one tree is named: of single calls, and of all lists
   pub only-run : OnlyRun
   pub only-runs : OnlyRuns
   -- the number tells which case of an answer it is, and the numbers the whole answer
@@ -71,3 +72,5 @@ pub record Agreeing : Type 0 where
   pub stops-exactly : machine.StopsExactly
   -- whatever the receiver writes before the base meanwhile, the runs go the same
   pub session-blind : SessionBlind
+  -- a carry-on with no fuel changes nothing
+  pub no-fuel-keeps : NoFuelKeeps

@@ -1,5 +1,6 @@
 -- The studio's three demands, a field or a line for each of their sentences. That every public call ends, and checks
--- everything itself, is said by the calls' contracts: they are equations for all inputs, with no `requires`.
+-- everything itself, is said by the calls' contracts: they are equations for all inputs, with no `requires`. A run is one from scratch,
+-- by the run call, or one from a stop, by the carry-on call.
 use Prim.Native.Nat.{ℕ}
 use mathlib.Core.Path.{_≡_}
 use mathlib.Core.Bool.{true}
@@ -12,7 +13,8 @@ use Rattle.table.specs.Slots.{room, RoomIs}
 use Rattle.table.specs.Frames.{JobRoomIs, JobWords}
 use Rattle.table.specs.Holds.{Holds}
 use Rattle.engine.specs.declared.RunAnswer.{RunAnswer}
-use Rattle.engine.specs.Run.{ran, run}
+use Rattle.engine.specs.Run.{ran, runFrom}
+use Rattle.engine.specs.declared.From.{From}
 use Rattle.engine.specs.Answer as engine
 use Rattle.bundle.specs.Checks.{refusal}
 use Rattle.bundle.specs.Exports.{namePart}
@@ -25,7 +27,8 @@ use Rattle.soundness.specs.NodesMeaning.{ReadsChildren}
 use Rattle.loader.specs.declared.LoadAnswer.{LoadAnswer}
 use Rattle.loader.specs.Answer.{Numbers, numbers}
 use Rattle.loader.specs.Load.{loaded, load}
-use Rattle.guarantees.specs.Run.{RunCall, RunSimulates, started, RefusalKeeps, RefusedExactly, JobsSound, BaseBlind, DoneStays}
+use Rattle.guarantees.specs.Run.{Calls, RunSimulates, started, RefusalKeeps, RefusedExactly, JobsSound, BaseBlind, DoneStays}
+use Rattle.guarantees.specs.Onward.{FuelInParts, StopsCarryOn}
 use Rattle.guarantees.specs.Session.{Request, Bring, AllAlike}
 use Rattle.guarantees.specs.Load.{AcceptedExactly, LoadNumberExactly, LoadRefusalKeeps, Loads, LoadLeaves, LoadBlind}
 
@@ -38,7 +41,7 @@ ZeroIsLeaf base words = (b : ℕ) × (base ≡ pos b) × Holds (drop b words) (r
 pub record Demand1 : Type 0 where
   -- bad input is answered with a number from the list, and a refusal changes no lent word
   pub load-kept : LoadRefusalKeeps load
-  pub run-refused : RefusedExactly run
+  pub run-refused : RefusedExactly runFrom
   pub run-kept : RefusalKeeps
   -- a call asked for a name answers the part of the file that it is, (0, 0) by 1 to 14 or where there is no such index
   pub name-by-index : NameByIndex namePart
@@ -56,8 +59,9 @@ pub record Demand1 : Type 0 where
   -- slot zero is the leaf after every accepted load and every run that was let start
   pub load-zero : (file words words′ : List ℕ) (base : ℤ) (exports exports′ : List ℕ) (a : LoadAnswer) →
       load file words base exports ≡ loaded words′ exports′ a → numbers a .number ≡ 0 → ZeroIsLeaf base words′
-  pub run-zero : (words words′ jobs jobs′ : List ℕ) (base f x : ℤ) (used fuel : ℕ) (a : RunAnswer) →
-      run words base f x used fuel jobs ≡ ran words′ jobs′ a → started (engine.numbers a) ≡ true → ZeroIsLeaf base words′
+  pub run-zero : (from : From) (words words′ jobs jobs′ : List ℕ) (base f x : ℤ) (used fuel : ℕ) (a : RunAnswer) →
+      runFrom from words base f x used fuel jobs ≡ ran words′ jobs′ a → started (engine.numbers a) ≡ true →
+      ZeroIsLeaf base words′
   -- the room of the two tables, and where a job stands
   pub room-is : RoomIs
   pub job-room-is : JobRoomIs
@@ -79,18 +83,21 @@ pub record Demand2 : Type 0 where
 -- 3. For every accepted bundle and every list of runs after it, refused ones included, the runs go as the bundle's own trees
 -- do on the reference machine. One claim about the whole list: from the table and the used count that a load leaves (Loads), any
 -- requests, whatever each finds before the base, with the store that starts with the records' trees in the order of placing.
-abbrev pub AllRuns : RunCall → Type 0
-AllRuns call =
+abbrev pub AllRuns : Calls → Type 0
+AllRuns calls =
     (file words words′ : List ℕ) (base : ℤ) (exports exports′ : List ℕ) (n : Numbers) →
     (l : Loads file words base exports words′ exports′ n) (requests : List Request) → Bring (l .at) requests →
-    AllAlike call (l .at) (room (drop (l .at) words)) (record { words = drop (l .at) words′; used = n .nodes }) (l .store) requests
+    AllAlike calls (l .at) (room (drop (l .at) words)) (record { words = drop (l .at) words′; used = n .nodes }) (l .store) requests
 
 pub record Demand3 : Type 0 where
-  pub all-runs : AllRuns run
+  pub all-runs : AllRuns runFrom
   -- and so does a single run, on any sound slots; the numbers of the stops
-  pub run-simulates : RunSimulates run
+  pub run-simulates : RunSimulates runFrom
   pub stop-numbers : StopNumbers
   -- the jobs that a run leaves are sound
   pub jobs-sound : JobsSound
   -- a done run stays done with more fuel and room
   pub done-stays : DoneStays
+  -- fuel in parts is one run with the sum; a stop may be carried on, but for too many steps
+  pub fuel-in-parts : FuelInParts
+  pub stops-carry-on : StopsCarryOn

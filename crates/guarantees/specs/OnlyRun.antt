@@ -1,4 +1,4 @@
--- Nothing that the rules fix is left open: which calls keep the promises of the run call.
+-- Nothing that the rules fix is left open: which calls keep the promises of the run call and of the carry-on call.
 use Prim.Native.Nat.{ℕ, _+_}
 use mathlib.Core.Path.{_≡_}
 use mathlib.Core.List.{List, [], _∷_, _++_}
@@ -9,10 +9,11 @@ use Rattle.calculus.specs.Rules.{Frame}
 use Rattle.table.specs.Holds.{Holds, HoldsFrom, Untouched, StandFrom}
 use Rattle.table.specs.SoundFrames.{SoundJobs}
 use Rattle.engine.specs.declared.RunAnswer.{RunAnswer}
-use Rattle.engine.specs.Run.{Ran, ran, run}
+use Rattle.engine.specs.Run.{Ran, ran, runFrom}
+use Rattle.engine.specs.declared.From.{From}
 use Rattle.engine.specs.Answer.{Numbers, numbers}
 use Rattle.guarantees.specs.Agrees.{doneWith, stoppedWith}
-use Rattle.guarantees.specs.Run.{RunCall, refusal, RefusedExactly, RunSimulates}
+use Rattle.guarantees.specs.Run.{RunCall, Calls, SimulatesFrom, refusal, RefusedFrom}
 use Rattle.guarantees.specs.Session.{Request, beforeOf, jobsOf, Bring, Table, answer, tableAfter, AllAlike}
 
 -- ---- one call
@@ -56,13 +57,14 @@ pub data SameCall (w j : List ℕ) (used : ℕ) (base : ℤ) : Ran → Ran → T
       → SameCall w j used base (ran (take b w ++ v) k a) (ran (take b w ++ v′) k′ a′)
 
 -- A call that is refused exactly where the run call is, and elsewhere simulates the machine, does what the run call does, on
--- every input, but for that choice of slots. So a run that does nothing and answers 31, takes one step and then only lowers
--- the fuel, makes a step count up or writes a word more breaks one of the two promises.
+-- every input, but for that choice of slots; and so with the carry-on call. A run that does nothing and answers 31, takes one step
+-- and then only lowers the fuel, makes a step count up or writes a word more breaks one of the two promises; so does a carry-on
+-- that trusts its jobs, zeroes them first or counts its own steps alone.
 abbrev pub OnlyRun : Type 0
 OnlyRun =
-    (call : RunCall) → RefusedExactly call → RunSimulates call
+    (from : From) (call : RunCall) → RefusedFrom from call → SimulatesFrom from call
     → (w j : List ℕ) (base f x : ℤ) (used fuel : ℕ)
-    → SameCall w j used base (call w base f x used fuel j) (run w base f x used fuel j)
+    → SameCall w j used base (call w base f x used fuel j) (runFrom from w base f x used fuel j)
 
 -- ---- a list of requests
 
@@ -75,15 +77,15 @@ pub data SameAnswer (n : ℕ) (t t′ : Table) (c : Request) : Ran → Ran → T
       → SameAnswer n t t′ c (ran (beforeOf c ++ v) k a) (ran (beforeOf c ++ v′) k′ a′)
 
 -- two calls go the same over a list, each in its own table, of which n slots were used at the start
-abbrev pub SameAll : RunCall → RunCall → ℕ → ℕ → Table → Table → List Request → Type 0
-SameAll call other b n t t′ [] = (t .used ≡ t′ .used) × SameSince n (t .used) (t .words) (t′ .words)
-SameAll call other b n t t′ (c ∷ cs) =
-    SameAnswer n t t′ c (answer call b t c) (answer other b t′ c)
-    × SameAll call other b n (tableAfter b t (answer call b t c)) (tableAfter b t′ (answer other b t′ c)) cs
+abbrev pub SameAll : Calls → Calls → ℕ → ℕ → Table → Table → List Request → Type 0
+SameAll calls others b n t t′ [] = (t .used ≡ t′ .used) × SameSince n (t .used) (t .words) (t′ .words)
+SameAll calls others b n t t′ (c ∷ cs) =
+    SameAnswer n t t′ c (answer calls b t c) (answer others b t′ c)
+    × SameAll calls others b n (tableAfter b t (answer calls b t c)) (tableAfter b t′ (answer others b t′ c)) cs
 
 -- Two calls under which a list goes as the machine does on one store go the same over that list.
 abbrev pub OnlySession : Type 0
 OnlySession =
-    (call other : RunCall) (b most : ℕ) (t : Table) (store : List Tree) (requests : List Request) → Bring b requests
-    → AllAlike call b most t store requests → AllAlike other b most t store requests
-    → SameAll call other b (t .used) t t requests
+    (calls others : Calls) (b most : ℕ) (t : Table) (store : List Tree) (requests : List Request) → Bring b requests
+    → AllAlike calls b most t store requests → AllAlike others b most t store requests
+    → SameAll calls others b (t .used) t t requests

@@ -1,38 +1,76 @@
--- What the run call guarantees, for each call by itself. The proofs are in proofs/, a file for each statement.
-use Prim.Native.Nat.{ℕ, _+_, _-_, _≤_, _<_}
+-- What the run call and the carry-on call guarantee, for each call by itself: a run from scratch, or from a stop. The proofs are in
+-- proofs/, a file for each statement.
+use Prim.Native.Nat.{ℕ, _+_, _-_, _*_, _≤_, _<_}
 use mathlib.Core.Path.{_≡_}
-use mathlib.Core.List.{List, _++_}
+use mathlib.Core.List.{List, [], _++_, reverse}
 use mathlib.Core.Bool.{Bool, true, false, _&&_, _||_}
 use mathlib.Core.Logic.{_⊎_, _↔_}
-use lib.ListN.{length, drop}
+use lib.ListN.{length, getD, drop}
 use lib.Dec.{eqb, leb}
 use lib.IntN.{ℤ, pos, negsuc}
 use Rattle.calculus.specs.Tree.{Tree}
+use Rattle.calculus.specs.Rules.{Frame}
+use Rattle.calculus.specs.Machine.{Outcome}
 use Rattle.calculus.specs.Machine as machine
 use Rattle.table.specs.Slots.{room, SameSlots}
 use Rattle.table.specs.Frames.{frameRoom}
 use Rattle.table.specs.Sound.{SoundSlot, SoundSlots}
-use Rattle.table.specs.Holds.{Holds}
+use Rattle.table.specs.Holds.{Holds, StandFrom, ZeroFrom}
 use Rattle.table.specs.SoundFrames.{SoundJobs}
 use Rattle.engine.specs.declared.RunAnswer.{RunAnswer}
 use Rattle.engine.specs.declared.RunAnswer.the-variants.{Refused, Done, Stopped}
-use Rattle.engine.specs.Run.{Ran, ran, run}
+use Rattle.engine.specs.Run.{Ran, ran, runFrom}
+use Rattle.engine.specs.declared.From.{From}
+use Rattle.engine.specs.declared.From.the-variants.{Scratch, Stop}
 use Rattle.engine.specs.Answer.{Numbers, numbers}
 use Rattle.guarantees.specs.Agrees.{Agrees}
 
--- what any run call leaves and answers, by the word table, the base, f, x, the used count, the fuel and the frame table
+-- what any call leaves and answers, by the word table, the base, f, x, the used count, the fuel and the frame table
 abbrev pub RunCall : Type 0
 RunCall = List ℕ → ℤ → ℤ → ℤ → ℕ → ℕ → List ℕ → Ran
 
--- A run on sound used slots is the reference machine's, on the trees that they hold: with the call's fuel, the room
--- less the used slots, and the frame table's room. The words before the base stay.
-abbrev pub RunSimulates : RunCall → Type 0
-RunSimulates call =
-    (before w j : List ℕ) (used f x fuel : ℕ) (ft xt : Tree)
-    → SoundSlots w used → Holds w used f ft → Holds w used x xt
+-- a call for each way to begin, as the run call and the carry-on call are
+abbrev pub Calls : Type 0
+Calls = From → RunCall
+
+-- ---- what a run begins with
+
+-- the steps that were taken before
+abbrev pub stepsBefore : From → ℕ
+stepsBefore Scratch = 0
+stepsBefore (Stop waiting steps) = steps
+
+-- 40: earlier steps and fuel, as whole numbers, are above 4,294,967,295
+abbrev pub TooMany : From → ℕ → Type 0
+TooMany Scratch fuel = ⊥
+TooMany (Stop waiting steps) fuel = 4294967295 < steps + fuel
+
+-- these frames wait, oldest first: none, or those that sound jobs stand for
+abbrev pub Waiting : From → List ℕ → ℕ → List ℕ → List Frame → Type 0
+Waiting Scratch w used j frames = frames ≡ []
+Waiting (Stop waiting steps) w used j frames =
+    SoundJobs used j waiting × (length frames ≡ waiting) × StandFrom w used j 0 frames
+
+-- an outcome with the earlier steps in its count
+abbrev pub later : ℕ → Outcome → Outcome
+later steps o = record { ending = o .ending; steps = steps + o .steps; made = o .made }
+
+-- A run on sound used slots is the reference machine's, on the trees that they hold: with the frames that wait, newest first, the
+-- call's fuel, the room less the used slots, and the frame table's room. The steps are in total. The words before the base stay.
+abbrev pub SimulatesFrom : From → RunCall → Type 0
+SimulatesFrom from call =
+    (before w j : List ℕ) (used f x fuel : ℕ) (ft xt : Tree) (frames : List Frame)
+    → SoundSlots w used → Holds w used f ft → Holds w used x xt → Waiting from w used j frames → (TooMany from fuel → ⊥)
     → (v : List ℕ) × (k : List ℕ) × (a : RunAnswer)
     × (call (before ++ w) (pos (length before)) (pos f) (pos x) used fuel j ≡ ran (before ++ v) k a)
-    × Agrees w used j v k (numbers a) (machine.run fuel (room w - used) (frameRoom j) (machine.start ft xt))
+    × Agrees w used j v k (numbers a)
+    (later (stepsBefore from)
+    (machine.run fuel (room w - used) (frameRoom j) (record { f = ft; x = xt; frames = reverse frames })))
+
+abbrev pub RunSimulates : Calls → Type 0
+RunSimulates calls = (from : From) → SimulatesFrom from (calls from)
+
+-- ---- the refusals
 
 -- a refusal's numbers: its own, and every other 0
 abbrev pub refusal : ℕ → Numbers
@@ -46,22 +84,27 @@ started a = eqb (a .number) 0 || (leb 31 (a .number) && leb (a .number) 33)
 abbrev pub RefusedWith : ℕ → List ℕ → List ℕ → Ran → Type 0
 RefusedWith n w j (ran v k a) = (numbers a ≡ refusal n) × (v ≡ w) × (k ≡ j)
 
+-- the numbers of the list that a run may be refused with; 40 is a carry-on's alone, as RefusedExactly says
+abbrev pub Listed : ℕ → Type 0
+Listed n = (n ≡ 21) ⊎ ((n ≡ 23) ⊎ ((n ≡ 24) ⊎ (n ≡ 40)))
+
 -- A run that was not let start has a number of the list, with every other number 0, and changes nothing.
 abbrev pub RefusalKeeps : Type 0
 RefusalKeeps =
-    (w v j k : List ℕ) (base f x : ℤ) (used fuel : ℕ) (a : RunAnswer)
-    → run w base f x used fuel j ≡ ran v k a → started (numbers a) ≡ false
-    → (n : ℕ) × RefusedWith n w j (ran v k a) × ((n ≡ 21) ⊎ ((n ≡ 23) ⊎ (n ≡ 24)))
+    (from : From) (w v j k : List ℕ) (base f x : ℤ) (used fuel : ℕ) (a : RunAnswer)
+    → runFrom from w base f x used fuel j ≡ ran v k a → started (numbers a) ≡ false
+    → (n : ℕ) × RefusedWith n w j (ran v k a) × Listed n
 
--- The number tells which case of the answer it is: a refusal has 21, 23 or 24, a stop 31, 32 or 33.
+-- The number tells which case of the answer it is: a refusal has 21, 23, 24 or 40, a stop 31, 32 or 33.
 abbrev pub Tells : RunAnswer → Type 0
-Tells (Refused n) = (n ≡ 21) ⊎ ((n ≡ 23) ⊎ (n ≡ 24))
+Tells (Refused n) = Listed n
 Tells (Done slot steps used) = Unit {0}
 Tells (Stopped n f x steps used waiting) = (31 ≤ n) × (n ≤ 33)
 
 abbrev pub NumberTells : Type 0
 NumberTells =
-    (w v j k : List ℕ) (base f x : ℤ) (used fuel : ℕ) (a : RunAnswer) → run w base f x used fuel j ≡ ran v k a → Tells a
+    (from : From) (w v j k : List ℕ) (base f x : ℤ) (used fuel : ℕ) (a : RunAnswer)
+    → runFrom from w base f x used fuel j ≡ ran v k a → Tells a
 
 -- and with it the numbers tell the whole answer
 abbrev pub OneAnswer : Type 0
@@ -84,39 +127,59 @@ abbrev pub Damaged : List ℕ → ℤ → ℕ → Type 0
 Damaged w (pos b) used = (i : ℕ) × (i < used) × (SoundSlot (drop b w) i → ⊥)
 Damaged w (negsuc b) used = ⊥
 
+-- 24, too: the jobs that a stop left are not sound
+abbrev pub JobsDamaged : From → ℕ → List ℕ → Type 0
+JobsDamaged Scratch used j = ⊥
+JobsDamaged (Stop waiting steps) used j = SoundJobs used j waiting → ⊥
+
 -- A run is refused exactly when one of these holds, with the lowest number that applies.
-abbrev pub RefusedExactly : RunCall → Type 0
-RefusedExactly call =
+abbrev pub RefusedFrom : From → RunCall → Type 0
+RefusedFrom from call =
     (w j : List ℕ) (base f x : ℤ) (used fuel : ℕ)
     → (RefusedWith 21 w j (call w base f x used fuel j) ↔ OutOfTable w base used)
     × (RefusedWith 23 w j (call w base f x used fuel j)
     ↔ ((OutOfTable w base used → ⊥) × (Misplaced used f ⊎ Misplaced used x)))
     × (RefusedWith 24 w j (call w base f x used fuel j)
-    ↔ ((OutOfTable w base used → ⊥) × (Misplaced used f → ⊥) × (Misplaced used x → ⊥) × Damaged w base used))
+    ↔ ((OutOfTable w base used → ⊥) × (Misplaced used f ⊎ Misplaced used x → ⊥)
+    × (Damaged w base used ⊎ JobsDamaged from used j)))
+    × (RefusedWith 40 w j (call w base f x used fuel j)
+    ↔ ((OutOfTable w base used → ⊥) × (Misplaced used f ⊎ Misplaced used x → ⊥)
+    × (Damaged w base used ⊎ JobsDamaged from used j → ⊥) × TooMany from fuel))
+
+abbrev pub RefusedExactly : Calls → Type 0
+RefusedExactly calls = (from : From) → RefusedFrom from (calls from)
+
+-- ---- what holds of every run
 
 -- Every run that was let start leaves sound waiting jobs, as many as it answers: none where it is done.
 abbrev pub JobsSound : Type 0
 JobsSound =
-    (w v j k : List ℕ) (base f x : ℤ) (used fuel : ℕ) (a : RunAnswer)
-    → run w base f x used fuel j ≡ ran v k a → started (numbers a) ≡ true
+    (from : From) (w v j k : List ℕ) (base f x : ℤ) (used fuel : ℕ) (a : RunAnswer)
+    → runFrom from w base f x used fuel j ≡ ran v k a → started (numbers a) ≡ true
     → SoundJobs (numbers a .used) k (numbers a .waiting)
 
 -- No word before the base is looked at or changed: wherever our part stands, and whatever is before it, the answer, our part and
 -- the frame table come out the same. With a base that is negative or past the end every run is refused with 21.
 abbrev pub BaseBlind : Type 0
 BaseBlind =
-    (before before′ w j : List ℕ) (f x : ℤ) (used fuel : ℕ)
+    (from : From) (before before′ w j : List ℕ) (f x : ℤ) (used fuel : ℕ)
     → (v : List ℕ) × (k : List ℕ) × (a : RunAnswer)
-    × (run (before ++ w) (pos (length before)) f x used fuel j ≡ ran (before ++ v) k a)
-    × (run (before′ ++ w) (pos (length before′)) f x used fuel j ≡ ran (before′ ++ v) k a)
+    × (runFrom from (before ++ w) (pos (length before)) f x used fuel j ≡ ran (before ++ v) k a)
+    × (runFrom from (before′ ++ w) (pos (length before′)) f x used fuel j ≡ ran (before′ ++ v) k a)
+
+-- the same jobs wait in a second frame table, with zeros above them; from scratch its words do not matter
+abbrev pub SameJobs : From → List ℕ → List ℕ → Type 0
+SameJobs Scratch j j′ = Unit {0}
+SameJobs (Stop waiting steps) j j′ = ((i : ℕ) → i < 3 * waiting → getD j i 0 ≡ getD j′ i 0) × ZeroFrom j′ waiting
 
 -- A done run, one that is answered 0, stays done with at least as much fuel and room for slots and frames, on the same
--- used slots, wherever they stand: the same answer, and the same slots.
+-- used slots, wherever they stand, and the same jobs: the same answer, and the same slots.
 abbrev pub DoneStays : Type 0
 DoneStays =
-    (before before′ w w′ v j j′ k : List ℕ) (f x : ℤ) (used fuel fuel′ : ℕ) (a : RunAnswer)
-    → run (before ++ w) (pos (length before)) f x used fuel j ≡ ran (before ++ v) k a → numbers a .number ≡ 0
-    → SameSlots used w w′ → fuel ≤ fuel′ → room w ≤ room w′ → frameRoom j ≤ frameRoom j′
+    (from : From) (before before′ w w′ v j j′ k : List ℕ) (f x : ℤ) (used fuel fuel′ : ℕ) (a : RunAnswer)
+    → runFrom from (before ++ w) (pos (length before)) f x used fuel j ≡ ran (before ++ v) k a → numbers a .number ≡ 0
+    → SameSlots used w w′ → SameJobs from j j′ → (TooMany from fuel′ → ⊥)
+    → fuel ≤ fuel′ → room w ≤ room w′ → frameRoom j ≤ frameRoom j′
     → (v′ : List ℕ) × (k′ : List ℕ)
-    × (run (before′ ++ w′) (pos (length before′)) f x used fuel′ j′ ≡ ran (before′ ++ v′) k′ a)
+    × (runFrom from (before′ ++ w′) (pos (length before′)) f x used fuel′ j′ ≡ ran (before′ ++ v′) k′ a)
     × SameSlots (numbers a .used) v v′

@@ -1,7 +1,8 @@
-// Makes the run call on each case of the input, and writes what it answers and the two tables that it leaves.
-ghost use mathlib.Core.Path.{_≡_};
+// Makes the call of each case of the input, a run or a carry-on, and writes what it answers and the two tables that it
+// leaves. A run is made in two parts too, as often as the case says.
 ghost use Prim.Native.Nat.{_≤_};
 ghost use lib.ListN.{length};
+use cases::answers::cut_line;
 use cases::answers::run_line;
 use cases::input::at_most;
 use cases::input::behind;
@@ -9,6 +10,8 @@ use cases::input::number;
 use cases::input::signed;
 use cases::output::show_table;
 use engine::RunAnswer;
+use engine::carry_on;
+use std::num::wrapping_sub_u32;
 
 // The paper's numbers; those not named are 0.
 fn show_answer(a: RunAnswer) {
@@ -37,37 +40,173 @@ fn fill(table: &mut [u32], s: &[u8], at: usize)
     }
 }
 
-// The call that is asked for at a place of the input.
-fn play(words: &mut [u32], jobs: &mut [u32], s: &[u8], asked: usize) -> RunAnswer {
-    let base = signed(number(s, asked));
-    let f = signed(number(s, behind(asked, 1)));
-    let x = signed(number(s, behind(asked, 2)));
-    let used = number(s, behind(asked, 3));
-    let fuel = number(s, behind(asked, 4));
-    engine::run(words, base, f, x, used, fuel, jobs)
+// A case: where its tables stand, and what is asked. A carry-on where call is 1, else a run, and then steps is how often
+// it is cut.
+struct Case {
+    words_at: usize,
+    jobs_at: usize,
+    call: u32,
+    base: i32,
+    f: i32,
+    x: i32,
+    used: u32,
+    waiting: u32,
+    steps: u32,
+    fuel: u32,
 }
 
-// A case on tables that are filled from two places of the input; between them stands what is asked.
-fn show_run(words: &mut [u32], jobs: &mut [u32], s: &[u8], at: usize, asked: usize)
+fn case_at(s: &[u8], words_at: usize, asked: usize) -> Case {
+    Case {
+        words_at,
+        jobs_at: behind(asked, 9),
+        call: number(s, asked),
+        base: signed(number(s, behind(asked, 1))),
+        f: signed(number(s, behind(asked, 2))),
+        x: signed(number(s, behind(asked, 3))),
+        used: number(s, behind(asked, 4)),
+        waiting: number(s, behind(asked, 5)),
+        steps: number(s, behind(asked, 6)),
+        fuel: number(s, behind(asked, 7)),
+    }
+}
+
+fn play(words: &mut [u32], jobs: &mut [u32], a: Case) -> RunAnswer {
+    if a.call == 1 {
+        return carry_on(
+            words,
+            a.base,
+            a.f,
+            a.x,
+            a.used,
+            a.waiting,
+            a.steps,
+            a.fuel,
+            jobs,
+        );
+    }
+    engine::run(words, a.base, a.f, a.x, a.used, a.fuel, jobs)
+}
+
+// The run with fuel for k steps, then a carry-on with the rest.
+fn play_parts(words: &mut [u32], jobs: &mut [u32], a: Case, k: u32) -> RunAnswer {
+    let rest = wrapping_sub_u32(a.fuel, k);
+    match engine::run(words, a.base, a.f, a.x, a.used, k, jobs) {
+        RunAnswer::Refused(number) => RunAnswer::Refused(number),
+        RunAnswer::Done { slot, steps, used } => RunAnswer::Done { slot, steps, used },
+        RunAnswer::Stopped {
+            number,
+            f,
+            x,
+            steps,
+            used,
+            waiting,
+        } => { carry_on(words, a.base, f, x, used, waiting, steps, rest, jobs) }
+    }
+}
+
+fn show_second(a: RunAnswer) {
+    match a {
+        RunAnswer::Refused(number) => cut_line(number, 0, 0, 0, 0, 0, 0),
+        RunAnswer::Done { slot, steps, used } => cut_line(0, slot, 0, 0, steps, used, 0),
+        RunAnswer::Stopped {
+            number,
+            f,
+            x,
+            steps,
+            used,
+            waiting,
+        } => { cut_line(number, 0, f, x, steps, used, waiting) }
+    }
+}
+
+fn alike(a: &[u32], b: &[u32]) -> bool {
+    if a.len() != b.len() {
+        return false;
+    }
+    let mut i = 0;
+    while i < a.len() {
+        if a[i] != b[i] {
+            return false;
+        }
+        i += 1;
+    }
+    true
+}
+
+// A table that is not as it should be.
+fn show_other(name: &[u8], table: &[u32], due: &[u32]) {
+    if !alike(table, due) {
+        show_table(name, table);
+    }
+}
+
+// A case in two parts on tables that are filled from the input: what the second part answers, and each table where it
+// is not the one that the run left.
+fn cut(
+    words: &mut [u32],
+    jobs: &mut [u32],
+    words_left: &[u32],
+    jobs_left: &[u32],
+    s: &[u8],
+    a: Case,
+    k: u32,
+)
     requires { ⌜ (length (now words) ≤ 120) × (length (now jobs) ≤ 120) ⌝ }
 {
-    fill(words, s, at);
-    fill(jobs, s, behind(asked, 6));
-    show_answer(play(words, jobs, s, asked));
-    show_table(b"words", words);
-    show_table(b"jobs", jobs);
+    fill(words, s, a.words_at);
+    fill(jobs, s, a.jobs_at);
+    show_second(play_parts(words, jobs, a, k));
+    show_other(b"words", words, words_left);
+    show_other(b"jobs", jobs, jobs_left);
 }
 
-// A case: a table, what is asked, and a job table, each table behind its length. Answers where the next case stands.
+fn show_cut(words: &[u32], jobs: &[u32], s: &[u8], a: Case, k: u32)
+    requires { ⌜ (length (now words) ≤ 120) × (length (now jobs) ≤ 24) ⌝ }
+{
+    let mut again: [u32; 120] = [0; 120];
+    let mut places: [u32; 24] = [0; 24];
+    let n = words.len();
+    let m = jobs.len();
+    cut(&mut again[0..n], &mut places[0..m], words, jobs, s, a, k);
+}
+
+// The cuts of a run, after 0 steps and up.
+fn show_cuts(words: &[u32], jobs: &[u32], s: &[u8], a: Case)
+    requires { ⌜ (length (now words) ≤ 120) × (length (now jobs) ≤ 24) ⌝ }
+{
+    if a.call == 1 {
+        return;
+    }
+    let mut k = 0;
+    while k < a.steps {
+        show_cut(words, jobs, s, a, k);
+        k += 1;
+    }
+}
+
+// A case on tables that are filled from the input.
+fn show_call(words: &mut [u32], jobs: &mut [u32], s: &[u8], a: Case)
+    requires { ⌜ (length (now words) ≤ 120) × (length (now jobs) ≤ 24) ⌝ }
+{
+    fill(words, s, a.words_at);
+    fill(jobs, s, a.jobs_at);
+    show_answer(play(words, jobs, a));
+    show_table(b"words", words);
+    show_table(b"jobs", jobs);
+    show_cuts(words, jobs, s, a);
+}
+
+// A case: a table, what is asked, and a job table, each table after its length. Answers where the next case stands.
 fn show_case(s: &[u8], at: usize) -> usize {
     let mut words: [u32; 120] = [0; 120];
     let mut jobs: [u32; 24] = [0; 24];
     let n = at_most(number(s, at), 120);
     let start = behind(at, 1);
     let asked = behind(start, n);
-    let m = at_most(number(s, behind(asked, 5)), 24);
-    let next = behind(behind(asked, 6), m);
-    show_run(&mut words[0..n], &mut jobs[0..m], s, start, asked);
+    let m = at_most(number(s, behind(asked, 8)), 24);
+    let a = case_at(s, start, asked);
+    let next = behind(a.jobs_at, m);
+    show_call(&mut words[0..n], &mut jobs[0..m], s, a);
     next
 }
 
@@ -94,24 +233,50 @@ fn put_d(words: &mut [u32])
     }
 }
 
-// D to D on a table of one slot more than the room's limit, and a word; of the table the last words are shown.
+// The last k words of a table.
+fn show_last(name: &[u8], table: &[u32], k: usize) {
+    let n = table.len();
+    if k <= n {
+        show_table(name, &table[n - k..n]);
+    }
+}
+
+// D to D; of the word table the last words are shown.
 fn show_d(words: &mut [u32], jobs: &mut [u32])
-    requires { ⌜ length (now words) ≡ 131073 ⌝ }
+    requires { ⌜ 12 ≤ length (now words) ⌝ }
 {
     put_d(words);
     show_answer(engine::run(words, 0, 5, 5, 6, 4294967295, jobs));
-    show_table(b"words", &words[131064..131073]);
+    show_last(b"words", words, 9);
     show_table(b"jobs", jobs);
 }
 
+fn put_last(table: &mut [u32], word: u32) {
+    let n = table.len();
+    if 0 < n {
+        table[n - 1] = word;
+    }
+}
+
+// A carry-on of L to L on a job table with this last word, where no job waits.
+fn show_l(jobs: &mut [u32], last: u32) {
+    let mut words: [u32; 4] = [0, 0, 9, 9];
+    put_last(jobs, last);
+    show_answer(carry_on(&mut words, 0, 0, 0, 1, 0, 7, 1, jobs));
+}
+
+// The word table has one slot more than the limit and a word, the second job table one word more than the limit.
 fn show_full() {
     let mut words: [u32; 131073] = [9; 131073];
     let mut jobs: [u32; 6] = [8; 6];
+    let mut places: [u32; 196606] = [0; 196606];
     show_d(&mut words, &mut jobs);
+    show_l(&mut places, 9);
+    show_l(&mut places, 0);
 }
 
 fn main() {
-    let mut buf = io::large_buffer();
+    let mut buf: [u8; 131072] = [0; 131072];
     let n = io::read_full(0, &mut buf);
     show_cases(&buf[..n]);
     show_full();

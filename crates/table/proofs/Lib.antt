@@ -8,3 +8,4 @@ pub mod SoundLaws
 pub mod FrameLaws
 pub mod HoldsLaws
 pub mod SoundFrames
+pub mod FramesTest

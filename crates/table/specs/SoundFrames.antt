@@ -13,7 +13,7 @@ use Rattle.table.specs.Holds.{StandFrom, ZeroFrom}
 
 -- ---- the test
 
--- the tag is 1 to 3, every slot that the frame names is used, and the third word is 0 under tags 2 and 3
+-- of three words
 unfoldable pub frameSound : ℕ → Record → Bool
 frameSound used r =
     ltb (r .first) used
@@ -28,21 +28,21 @@ unfoldable pub allZero : List ℕ → Bool
 allZero [] = true
 allZero (x ∷ xs) = eqb x 0 && allZero xs
 
--- no more wait than there is room for, each of them is sound, and all words above them are 0
+-- of all waiting frames, and of the words above them
 unfoldable pub framesSound : ℕ → List ℕ → ℕ → Bool
 framesSound used j waiting =
     leb waiting (frameRoom j) && (eachSound used j waiting && allZero (drop (frameWidth * waiting) j))
 
 -- ---- what it says
 
--- three words are those of a job
+-- the three words of a sound job: "each tag is 1 to 3, every slot they name is used, the third word is 0 under tags 2 and 3"
 pub record SoundJob (used : ℕ) (r : Record) : Type 0 where
   pub tag : (1 ≤ r .tag) × (r .tag ≤ 3)
   pub first : r .first < used
   pub second : r .tag ≡ 1 → r .second < used
   pub third : (r .tag ≡ 2) ⊎ (r .tag ≡ 3) → r .second ≡ 0
 
--- waiting jobs are sound
+-- "waiting jobs are sound when they are no more than the job room", each is, "and all words above them are 0"
 pub record SoundJobs (used : ℕ) (j : List ℕ) (waiting : ℕ) : Type 0 where
   pub fits : waiting ≤ frameRoom j
   pub each : (k : ℕ) → k < waiting → SoundJob used (recordAt j k)

@@ -1,8 +1,10 @@
 // Frames of a lent frame table, the paper's job table: continuation frames of three words, oldest first.
 ghost use mathlib.Core.Path.{_≡_};
-ghost use Prim.Native.Nat.{_<_};
+ghost use Prim.Native.Nat.{_≤_, _<_};
 ghost use Rattle.table.specs.Frames.{frameRoom, frameAt, putRecord, putFrame, dropFrame, cleared, Names};
+ghost use Rattle.table.specs.SoundFrames.{frameSound, eachSound, allZero, framesSound};
 ghost use Rattle.table.specs.Limits.{maxSlots};
+ghost use lib.ListN.{drop};
 use crate::limits::Limit;
 use crate::slots::Slot;
 
@@ -19,6 +21,8 @@ pub enum Frame {
 impl Frame {
     // The words of a frame.
     pub const WORDS: usize = 3;
+    // Words above the frames that are looked at together: enough for the compiler to take several at a time.
+    pub const BLOCK: usize = 1024;
 }
 
 // How many frames the table has room for.
@@ -86,4 +90,94 @@ pub fn clear(jobs: &mut [u32])
         jobs[i] = 0;
         i += 1;
     }
+}
+
+// Whether three words are those of a frame that names used slots alone.
+fn frame_sound(kind: u32, first: u32, second: u32, used: u32) -> bool
+    ensures { λ r. ⌜ r ≡ frameSound used (record { tag = kind; first = first; second = second }) ⌝ }
+{
+    if first >= used {
+        return false;
+    }
+    if kind == 1 {
+        return second < used;
+    }
+    if kind == 2 {
+        return second == 0;
+    }
+    if kind == 3 {
+        return second == 0;
+    }
+    false
+}
+
+// Whether the first `waiting` frames are sound.
+fn each_sound(jobs: &[u32], used: u32, waiting: u32) -> bool
+    requires { ⌜ waiting ≤ frameRoom (now jobs) ⌝ }
+    ensures { λ r. ⌜ r ≡ eachSound used (now (jobs .entry)) waiting ⌝ }
+{
+    let mut k: u32 = 0;
+    while k < waiting {
+        let at = Frame::WORDS * (k as usize);
+        let good = frame_sound(jobs[at], jobs[at + 1], jobs[at + 2], used);
+        if !good {
+            return false;
+        }
+        k += 1;
+    }
+    true
+}
+
+// Whether every word is 0. All are looked at, whatever comes, so that several can be at once.
+fn all_zero(words: &[u32]) -> bool
+    ensures { λ r. ⌜ r ≡ allZero (now (words .entry)) ⌝ }
+{
+    let mut bits: u32 = 0;
+    let mut i: usize = 0;
+    while i < words.len() {
+        bits = bits | words[i];
+        i += 1;
+    }
+    bits == 0
+}
+
+// Where a block of words that starts there ends.
+fn block_end(start: usize, len: usize) -> usize
+    requires { ⌜ start < len ⌝ }
+    ensures { λ r. ⌜ (start < r) × (r ≤ len) ⌝ }
+{
+    if len - start > Frame::BLOCK {
+        return start + Frame::BLOCK;
+    }
+    len
+}
+
+// Whether every word from there on is 0: block by block, up to the first that has another.
+fn zeros_from(jobs: &[u32], from: usize) -> bool
+    ensures { λ r. ⌜ r ≡ allZero (drop from (now (jobs .entry))) ⌝ }
+{
+    let mut i: usize = from;
+    while i < jobs.len() {
+        let end = block_end(i, jobs.len());
+        let zero = all_zero(&jobs[i..end]);
+        if !zero {
+            return false;
+        }
+        i = end;
+    }
+    true
+}
+
+// Whether the waiting frames are sound, and all words above them 0.
+pub fn frames_sound(jobs: &[u32], used: u32, waiting: u32) -> bool
+    ensures { λ r. ⌜ r ≡ framesSound used (now (jobs .entry)) waiting ⌝ }
+{
+    if frame_room(jobs) < waiting {
+        return false;
+    }
+    let good = each_sound(jobs, used, waiting);
+    if !good {
+        return false;
+    }
+    zeros_from(jobs, Frame::WORDS * (waiting as usize))
 }
