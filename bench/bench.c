@@ -1,6 +1,6 @@
 /*
- * Times the archive's calls beside plain C, and measures their stack. A report, not a test: it fails only where the two
- * disagree in an answer.
+ * Times the archive's calls beside plain C and its two engines beside each other, and measures their stack. A report,
+ * not a test: it fails only where two sides disagree in an answer.
  */
 #include <stdio.h>
 #include <stdlib.h>
@@ -28,7 +28,7 @@ enum {
 
 static const double aim = 0.9;
 
-static struct workload workloads[WORKLOADS];
+static struct workload workloads[WORKLOADS], chains[CHAINS];
 static struct bundle bundles[BUNDLES];
 static uint8_t hashed[HASHED_BYTES];
 
@@ -249,6 +249,56 @@ static void parts_row(struct parts p)
     print_ratio(r, 0);
 }
 
+/* ---- The two engines: the plain one beside the run call, within the fuel and job places that it takes */
+
+static void by_plain_engine(const struct workload *w, uint32_t answer[ARBORICX_PLAIN_ANSWER])
+{
+    const uint32_t job_room = (uint32_t)(w->jobs_len / ARBORICX_JOB_WORDS);
+    arboricx_plain_run(w->words, WORKLOAD_WORDS, 0, w->f, w->x, w->used, w->fuel, job_room, answer);
+}
+
+static void plain_engine(const void *input)
+{
+    uint32_t answer[ARBORICX_PLAIN_ANSWER];
+    by_plain_engine(input, answer);
+}
+
+/* Both engines from the same table: the same number, result, steps and used count, the same words. */
+static void compare_engines(const struct workload *w, uint32_t run[ARBORICX_RUN_ANSWER])
+{
+    static uint32_t words[WORKLOAD_WORDS];
+    uint32_t plain[ARBORICX_PLAIN_ANSWER];
+    compare_runs(w, run);
+    memcpy(words, w->words, sizeof words);
+    clear_unused(w);
+    by_plain_engine(w, plain);
+    const uint32_t number = run[ARBORICX_RUN_NUMBER], slot = number == ARBORICX_OK ? run[ARBORICX_RUN_SLOT] : 0;
+    if (plain[ARBORICX_PLAIN_NUMBER] == number && plain[ARBORICX_PLAIN_SLOT] == slot &&
+        plain[ARBORICX_PLAIN_STEPS] == run[ARBORICX_RUN_STEPS] &&
+        plain[ARBORICX_PLAIN_USED] == run[ARBORICX_RUN_USED] && memcmp(words, w->words, sizeof words) == 0) return;
+    fprintf(stderr, "the two engines disagree: %s\n", w->name);
+    exit(1);
+}
+
+static void engines_row(struct workload w)
+{
+    uint32_t answer[ARBORICX_RUN_ANSWER];
+    compare_engines(&w, answer);
+    const double steps = answer[ARBORICX_RUN_STEPS];
+    const struct race r = race(plain_engine, archive_run, &w, 1000);
+    printf("| %s: %.0f steps, %u used slots to check |", w.name, steps, (unsigned)w.used);
+    printf(" %.1f million steps/s | %.1f million steps/s |", steps / r.archive / 1e6, steps / r.plain / 1e6);
+    print_ratio(r, 0);
+}
+
+/* Not the last workload: with so few steps it would be the check of its many slots that is timed. */
+static void engines_rows(void)
+{
+    printf("\n| Two engines | Plain run | Run | Ratio | Aim |\n|---|---|---|---|---|\n");
+    for (int i = 0; i < WORKLOADS - 1; i++) engines_row(plain_sized(workloads[i]));
+    for (int i = 0; i < CHAINS; i++) engines_row(chains[i]);
+}
+
 /* ---- The check of the used slots that a run begins with */
 
 /* Part of a table that is filled to the end; a run with no fuel and no job places does little but the check. */
@@ -430,6 +480,7 @@ int main(void)
     static const uint32_t node_counts[BUNDLES] = {1, 64, ARBORICX_MAX_NODES};
     static const uint32_t part_fuels[WORKLOADS] = {1000, 1000, 100000};
     make_workloads(workloads);
+    make_chains(chains);
     for (int i = 0; i < BUNDLES; i++) make_bundle(&bundles[i], node_counts[i]);
     print_machine();
     printf("| Measure | Archive | Plain C | Ratio | Aim |\n|---|---|---|---|---|\n");
@@ -439,6 +490,7 @@ int main(void)
     entry_rows();
     queue_rows();
     for (int i = 0; i < WORKLOADS; i++) parts_row((struct parts){&workloads[i], part_fuels[i]});
-    print_stack_rows(bundles, BUNDLES, workloads);
+    print_stack_rows(bundles, BUNDLES, workloads, chains);
+    engines_rows();
     return 0;
 }

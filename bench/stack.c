@@ -10,7 +10,7 @@
 #include "reference.h"
 
 enum {
-    STACK_BYTES = 256 * 1024,
+    STACK_BYTES = 2 * ARBORICX_PLAIN_STACK,
     PAINT = 0xa5,
     LOAD_AIM = 16 * 1024,
     RUN_AIM = 1024,
@@ -25,6 +25,7 @@ struct call {
     uint32_t (*run)(uint32_t *, size_t, int32_t, int32_t, int32_t, uint32_t, uint32_t, uint32_t *, size_t, uint32_t *);
     uint32_t (*carry_on)(uint32_t *, size_t, int32_t, int32_t, int32_t, uint32_t, uint32_t, uint32_t, uint32_t,
                          uint32_t *, size_t, uint32_t *);
+    uint32_t (*plain_engine)(uint32_t *, size_t, int32_t, int32_t, int32_t, uint32_t, uint32_t, uint32_t, uint32_t *);
     uint32_t (*check)(const uint8_t *, size_t);
     uint32_t (*index)(const uint8_t *, size_t, const uint8_t *, size_t, uint32_t *);
     void (*name)(const uint8_t *, size_t, uint32_t, size_t *);
@@ -64,6 +65,13 @@ static uint32_t no_carry_on(uint32_t *words, size_t words_len, int32_t base, int
     return no_run(words, words_len, base, f, x, used, fuel, jobs, jobs_len, answer);
 }
 
+static uint32_t no_plain_engine(uint32_t *words, size_t words_len, int32_t base, int32_t f, int32_t x, uint32_t used,
+                                uint32_t fuel, uint32_t job_room, uint32_t *answer)
+{
+    (void)words, (void)words_len, (void)base, (void)f, (void)x, (void)used, (void)fuel, (void)job_room, (void)answer;
+    return 0;
+}
+
 static uint32_t no_check(const uint8_t *file, size_t file_len)
 {
     (void)file, (void)file_len;
@@ -99,8 +107,8 @@ static void *no_copy(void *to, const void *from, size_t len)
 }
 
 static const struct call empty = {
-    .load = no_load, .run = no_run, .carry_on = no_carry_on, .check = no_check, .index = no_index,
-    .name = no_name, .sha256 = no_sha256, .fill = no_fill, .copy = no_copy,
+    .load = no_load, .run = no_run, .carry_on = no_carry_on, .plain_engine = no_plain_engine, .check = no_check,
+    .index = no_index, .name = no_name, .sha256 = no_sha256, .fill = no_fill, .copy = no_copy,
 };
 
 /* ---- What runs on the painted stack. */
@@ -124,6 +132,14 @@ static void enter_carry_on(const struct call *c)
     static uint32_t answer[ARBORICX_RUN_ANSWER];
     const struct workload *w = c->workload;
     c->carry_on(w->words, WORKLOAD_WORDS, 0, w->f, w->x, w->used, 0, 0, w->fuel, w->jobs, w->jobs_len, answer);
+}
+
+static void enter_plain_engine(const struct call *c)
+{
+    static uint32_t answer[ARBORICX_PLAIN_ANSWER];
+    const struct workload *w = c->workload;
+    const uint32_t job_room = (uint32_t)(w->jobs_len / ARBORICX_JOB_WORDS);
+    c->plain_engine(w->words, WORKLOAD_WORDS, 0, w->f, w->x, w->used, w->fuel, job_room, answer);
 }
 
 static void enter_check(const struct call *c)
@@ -239,12 +255,40 @@ static void carry_on_row(const struct workload *w)
         carry_on_need(w, (struct call){.carry_on = plain_carry_on}), RUN_AIM);
 }
 
-void print_stack_rows(const struct bundle *bundles, size_t bundle_count, const struct workload workloads[WORKLOADS])
+static size_t plain_engine_need(const struct workload *w)
+{
+    return need(enter_plain_engine, (struct call){.workload = w, .plain_engine = arboricx_plain_run});
+}
+
+static void plain_engine_row(const struct workload *w)
+{
+    const struct workload sized = plain_sized(*w);
+    char input[64];
+    snprintf(input, sizeof input, ", %s, %u steps", w->name, (unsigned)sized.fuel);
+    row("plain_run", input, plain_engine_need(&sized), 0, ARBORICX_PLAIN_STACK);
+}
+
+/* A chain goes a level deeper at each step. How deep that is the run call tells: its steps, and the jobs that wait. */
+static void chain_row(const struct workload *w)
+{
+    uint32_t answer[ARBORICX_RUN_ANSWER];
+    arboricx_run(w->words, WORKLOAD_WORDS, 0, w->f, w->x, w->used, w->fuel, w->jobs, w->jobs_len, answer);
+    const size_t bytes = plain_engine_need(w);
+    printf("| stack of plain_run, %s: %u steps, %u jobs waiting |", w->name, (unsigned)answer[ARBORICX_RUN_STEPS],
+           (unsigned)answer[ARBORICX_RUN_JOBS]);
+    printf(" %zu bytes, %.1f a level | | | at most %d |\n", bytes, (double)bytes / answer[ARBORICX_RUN_STEPS],
+           ARBORICX_PLAIN_STACK);
+}
+
+void print_stack_rows(const struct bundle *bundles, size_t bundle_count, const struct workload workloads[WORKLOADS],
+                      const struct workload chains[CHAINS])
 {
     const struct bundle *const last = &bundles[bundle_count - 1];
     for (size_t i = 0; i < bundle_count; i++) load_row(&bundles[i]);
     for (int i = 0; i < WORKLOADS; i++) run_row(&workloads[i]);
     for (int i = 0; i < WORKLOADS; i++) carry_on_row(&workloads[i]);
+    for (int i = 0; i < WORKLOADS; i++) plain_engine_row(&workloads[i]);
+    for (int i = 0; i < CHAINS; i++) chain_row(&chains[i]);
     row("check", "", need(enter_check, (struct call){.bundle = last, .check = arboricx_check}), 0, 0);
     row("export_index", "", need(enter_index, (struct call){.bundle = last, .index = arboricx_export_index}), 0, 0);
     row("export_name", "", need(enter_name, (struct call){.bundle = last, .name = arboricx_export_name}), 0, 0);

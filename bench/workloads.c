@@ -11,6 +11,8 @@ enum {
 
 static uint32_t tables[WORKLOADS][WORKLOAD_WORDS];
 static uint32_t job_tables[WORKLOADS][ARBORICX_JOB_WORDS * (DEPTH + FEW_JOBS)];
+static uint32_t chain_tables[CHAINS][WORKLOAD_WORDS];
+static uint32_t chain_job_tables[CHAINS][ARBORICX_JOB_WORDS * ARBORICX_MAX_PLAIN];
 
 /* The next slot gets two words; the answer is its number. */
 static uint32_t put(struct workload *w, uint32_t first, uint32_t second)
@@ -119,4 +121,55 @@ void make_workloads(struct workload out[WORKLOADS])
         makers[i](&out[i]);
     }
     out[WORKLOADS - 1].jobs_len = ARBORICX_JOB_WORDS * (DEPTH + FEW_JOBS);
+}
+
+/*
+ * One rule again and again: each step applies the f of the level below, down to the leaf, which makes a node. Rules 4 and
+ * 7 add a job at each level, rule 6 adds none.
+ */
+static void chain(struct workload *w, uint32_t rule, uint32_t levels)
+{
+    const uint32_t l = leaf(w);
+    uint32_t f = l, x = l;
+    for (uint32_t i = 0; i < levels; i++) {
+        if (rule == 4) {
+            f = fork_of(w, stem(w, f), l);
+        } else if (rule == 6) {
+            f = triage(w, l, f, l);
+            x = stem(w, x);
+        } else {
+            f = triage(w, l, l, f);
+            x = fork_of(w, x, l);
+        }
+    }
+    w->f = (int32_t)f;
+    w->x = (int32_t)x;
+    w->fuel = ARBORICX_MAX_PLAIN;
+}
+
+void make_chains(struct workload out[CHAINS])
+{
+    static const struct { const char *name; uint32_t rule, levels; } chains[CHAINS] = {
+        {"chain of rule 4", 4, ARBORICX_MAX_PLAIN},
+        {"chain of rule 6", 6, ARBORICX_MAX_PLAIN},
+        {"chain of rule 7", 7, ARBORICX_MAX_PLAIN},
+        {"chain of rule 4, then a node", 4, ARBORICX_MAX_PLAIN - 1},
+    };
+    memset(chain_tables, 0, sizeof chain_tables);
+    memset(chain_job_tables, 0, sizeof chain_job_tables);
+    for (int i = 0; i < CHAINS; i++) {
+        out[i].name = chains[i].name;
+        out[i].words = chain_tables[i];
+        out[i].used = 0;
+        out[i].jobs = chain_job_tables[i];
+        out[i].jobs_len = ARBORICX_JOB_WORDS * ARBORICX_MAX_PLAIN;
+        chain(&out[i], chains[i].rule, chains[i].levels);
+    }
+}
+
+struct workload plain_sized(struct workload w)
+{
+    if (w.fuel > ARBORICX_MAX_PLAIN) w.fuel = ARBORICX_MAX_PLAIN;
+    if (w.jobs_len > ARBORICX_JOB_WORDS * ARBORICX_MAX_PLAIN) w.jobs_len = ARBORICX_JOB_WORDS * ARBORICX_MAX_PLAIN;
+    return w;
 }

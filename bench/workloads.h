@@ -7,7 +7,7 @@
 
 #include "arboricx.h"
 
-enum { WORKLOADS = 3, WORKLOAD_WORDS = ARBORICX_SLOT_WORDS * ARBORICX_MAX_SLOTS };
+enum { WORKLOADS = 3, CHAINS = 4, WORKLOAD_WORDS = ARBORICX_SLOT_WORDS * ARBORICX_MAX_SLOTS };
 
 struct workload {
     const char *name;
@@ -21,5 +21,11 @@ struct workload {
 
 /* Fills the tables of all workloads; they stay until the program ends. */
 void make_workloads(struct workload out[WORKLOADS]);
+
+/* The same for the runs that nest the deepest: one rule again and again, until the fuel of a plain run is spent. */
+void make_chains(struct workload out[CHAINS]);
+
+/* The workload with no more fuel and job places than a plain run takes. */
+struct workload plain_sized(struct workload w);
 
 #endif

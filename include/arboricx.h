@@ -5,7 +5,8 @@
  *
  * Every call takes any bytes, any numbers and any tables. It checks everything itself, it ends, and it answers bad
  * input with a number of the list below. It allocates nothing, keeps nothing between calls, and calls nothing but
- * memcpy and memset of the C library. It needs at most ARBORICX_STACK bytes of stack.
+ * memcpy and memset of the C library. It needs at most ARBORICX_STACK bytes of stack; arboricx_plain_run, which is for
+ * testers, needs up to ARBORICX_PLAIN_STACK.
  * What is said here of answers and tables is proved of the calls' source (docs/GUARANTEES.md); the stack is measured,
  * and that nothing else is called is tested. What C has to keep (docs/TRUST.md):
  *
@@ -30,9 +31,9 @@
  * bundle; a run needs one more for each node that it makes.
  *
  * The used count says how many slots are used, from slot 0 on. The used slots are sound when slot 0 is (0, 0) and in each
- * later slot i the first word is 1 to i and the second 0 to i; else they are damaged. An accepted load leaves sound
- * slots, and so does every run or carry-on that was let start. These take any sound slots, whoever wrote them. Slot 0 is
- * then the leaf.
+ * later slot i the first word is 1 to i and the second 0 to i; else they are damaged. A run of any kind is one by
+ * arboricx_run, arboricx_carry_on or arboricx_plain_run. An accepted load leaves sound slots, and so does every run of any
+ * kind that was let start. These take any sound slots, whoever wrote them. Slot 0 is then the leaf.
  *
  * The table `jobs` holds the jobs that wait when a run stops, three words to a job, oldest first:
  *
@@ -83,7 +84,7 @@ extern "C" {
  * ---- The numbers
  *
  * 0 is success. A refusal answers the smallest number that applies, with every other number of the answer 0, and
- * changes no word of any table but `answer`. 31, 32 and 33 are no refusals: the run or the carry-on was let start, and
+ * changes no word of any table but `answer`. 31, 32 and 33 are no refusals: a run, of whatever kind, was let start, and
  * stopped.
  */
 enum arboricx_number {
@@ -113,17 +114,18 @@ enum arboricx_number {
     ARBORICX_HASH_UNRESOLVED = 20,   /* a root's or export's hash has no record */
     /* the tables and the slots */
     ARBORICX_NO_ROOM = 21,           /* base negative or past the end of the table; load: room below the node count;
-                                        run, carry-on: used count 0 or above room */
+                                        a run of any kind: used count 0 or above room */
     ARBORICX_EXPORTS_TOO_SHORT = 22, /* export table shorter than the export count */
-    ARBORICX_NO_SLOT = 23,           /* run, carry-on: a slot is negative or not below the used count */
-    ARBORICX_DAMAGED = 24,           /* run, carry-on: the used slots are damaged; carry-on: the jobs are not sound */
+    ARBORICX_NO_SLOT = 23,           /* a run of any kind: a slot is negative or not below the used count */
+    ARBORICX_DAMAGED = 24,           /* a run of any kind: the used slots are damaged; carry-on: the jobs are not sound */
     ARBORICX_NO_EXPORT = 25,         /* no export of that name */
-    /* stops of a run or a carry-on */
+    /* stops of a run of any kind */
     ARBORICX_OUT_OF_FUEL = 31,       /* no fuel is left */
     ARBORICX_OUT_OF_SLOTS = 32,      /* the next step makes a node, and no slot is left */
     ARBORICX_OUT_OF_JOBS = 33,       /* the next step adds a job, and no place is left */
-    /* a refusal again */
-    ARBORICX_TOO_MANY_STEPS = 40     /* carry-on: the steps so far and the fuel are above 4,294,967,295 together */
+    /* refusals again */
+    ARBORICX_TOO_MANY_STEPS = 40,    /* carry-on: the steps so far and the fuel are above 4,294,967,295 together */
+    ARBORICX_TOO_DEEP = 49           /* plain run: fuel or job room above 1,000 */
 };
 
 /* ---- The sizes */
@@ -136,7 +138,10 @@ enum arboricx_number {
 #define ARBORICX_MAX_JOBS 65535  /* jobs that may wait, however long the job table is */
 #define ARBORICX_SLOT_WORDS 2    /* words of a slot */
 #define ARBORICX_JOB_WORDS 3     /* words of a job */
-#define ARBORICX_STACK 16384     /* bytes of stack that a call needs at most; a run or a carry-on needs under 1,024 */
+#define ARBORICX_STACK 16384     /* bytes of stack that a call needs at most, but for a plain run; a run or a carry-on
+                                    needs under 1,024 */
+#define ARBORICX_MAX_PLAIN 1000  /* fuel of a plain run, and its job room */
+#define ARBORICX_PLAIN_STACK 327680 /* bytes of stack that a plain run needs at most, some 304 for each step */
 
 /* ---- The words of each answer. All of them are written at every call. */
 
@@ -150,6 +155,13 @@ enum {
     ARBORICX_RUN_USED,
     ARBORICX_RUN_JOBS, /* stopped: how many jobs wait; done: 0 */
     ARBORICX_RUN_ANSWER
+};
+enum {
+    ARBORICX_PLAIN_NUMBER,
+    ARBORICX_PLAIN_SLOT, /* done: the slot of the result; stopped: 0 */
+    ARBORICX_PLAIN_STEPS,
+    ARBORICX_PLAIN_USED,
+    ARBORICX_PLAIN_ANSWER
 };
 enum { ARBORICX_INDEX_NUMBER, ARBORICX_INDEX, ARBORICX_INDEX_ANSWER };
 enum { ARBORICX_NAME_START, ARBORICX_NAME_LENGTH, ARBORICX_NAME_ANSWER };
@@ -179,7 +191,7 @@ uint32_t arboricx_load(const uint8_t *file, size_t file_len,
 /*
  * Applies slot f to slot x, with fuel for so many steps: 21, 23 or 24; 31, 32 or 33; or 0.
  *
- * `used` is the count that the last run or carry-on not refused answered, or before any such call the load's node count.
+ * `used` is the count that the last run of any kind not refused answered, or before any such call the load's node count.
  * It is checked, as the used slots are: a table that was damaged meanwhile is refused.
  * 0: done. The answer is 0, the slot of the result, 0, the steps taken, the used count now, 0.
  * 31, 32, 33: stopped. The answer is the number, the f and the x still to be applied, the steps taken, the used count
@@ -205,10 +217,10 @@ uint32_t arboricx_run(uint32_t *words, size_t words_len, int32_t base,
  *      arboricx_carry_on(words, words_len, base, (int32_t)a[ARBORICX_RUN_F], (int32_t)a[ARBORICX_RUN_X],
  *                        a[ARBORICX_RUN_USED], a[ARBORICX_RUN_JOBS], a[ARBORICX_RUN_STEPS], fuel, jobs, jobs_len, a);
  *
- * After other runs on the same words `used` is the count that the last of them answered, and the job table is the one
- * that the stop left. All of it is checked, whoever wrote it. What a stop leaves, by 31, 32 or 33, of a run or of a
- * carry-on, is refused with 40 at most. After 32 lend a longer word table, after 33 a longer job table, with the same
- * words, and zeros after the jobs.
+ * After other runs of any kind on the same words `used` is the count that the last of them answered, and the job table
+ * is the one that the stop left. All of it is checked, whoever wrote it. What a stop leaves, by 31, 32 or 33, of a run or
+ * of a carry-on, is refused with 40 at most. After 32 lend a longer word table, after 33 a longer job table, with the
+ * same words, and zeros after the jobs.
  * 0, 31, 32, 33: the answer and both tables are as a run's, but that no job is zeroed first and that the steps are those
  * in total. With no fuel it answers 31 and what it was handed. A carry-on that is done with some fuel, slots and job
  * places is done with more of each, unless that is refused with 40.
@@ -218,6 +230,25 @@ uint32_t arboricx_carry_on(uint32_t *words, size_t words_len, int32_t base,
                            int32_t f, int32_t x, uint32_t used, uint32_t waiting, uint32_t steps, uint32_t fuel,
                            uint32_t *jobs, size_t jobs_len,
                            uint32_t answer[ARBORICX_RUN_ANSWER]);
+
+/*
+ * Applies slot f to slot x as arboricx_run does, on a second engine that reads like the seven rules, for a tester to
+ * compare with: 21, 23, 24 or 49; 31, 32 or 33; or 0. The two engines share the tests of the used count, of the slots and
+ * of the damage (21, 23, 24), and how slots are read and written.
+ *
+ * It is lent no job table. It counts how many jobs would wait, and stops with 33 before there would be more than
+ * `job_room`. Each step may go a level deeper on the stack, up to ARBORICX_PLAIN_STACK bytes in all: hence fuel or job room
+ * above ARBORICX_MAX_PLAIN is refused with 49.
+ * 0: done. The answer is 0, the slot of the result, the steps taken, the used count now.
+ * 31, 32, 33: stopped. The answer is the number, 0, the steps taken, the used count now. What is still to be applied is
+ * not told: a plain run cannot be carried on. The nodes made stay: hand the used count on.
+ * In both cases the number, the slot of a result, the steps, the used count and every word of `words` are those of
+ * arboricx_run on the same table, with the same base, slots, used count and fuel, and a job table of that room.
+ * 21, 23, 24, 49: refused. The answer is the number and zeros. No word of the table has changed.
+ */
+uint32_t arboricx_plain_run(uint32_t *words, size_t words_len, int32_t base,
+                            int32_t f, int32_t x, uint32_t used, uint32_t fuel, uint32_t job_room,
+                            uint32_t answer[ARBORICX_PLAIN_ANSWER]);
 
 /*
  * The index of the export with a name, which is any bytes; the empty name means the first export: 1 to 14, 25, or 0.

@@ -20,8 +20,13 @@ use Rattle.engine.specs.Answer as engine
 use Rattle.engine.specs.declared.From.{From}
 use Rattle.engine.specs.Named.{Named}
 use Rattle.engine.proofs.Named.{slots-named}
-use Rattle.arboricx.specs.Answers.{loadWords, runWords, indexWords}
-use Rattle.arboricx.specs.Calls.{left, afterLoad, afterRun, told, afterIndex}
+use Rattle.plain.specs.declared.PlainAnswer.{PlainAnswer}
+use Rattle.plain.specs.Run.{Played, played, plainRun}
+use Rattle.plain.specs.Answer as plain
+use Rattle.plain.specs.Named as plainly
+use Rattle.plain.proofs.Named.{plain-slot-named}
+use Rattle.arboricx.specs.Answers.{loadWords, runWords, plainWords, indexWords}
+use Rattle.arboricx.specs.Calls.{left, afterLoad, afterRun, leftOne, afterPlain, told, afterIndex}
 
 -- ---- a load
 
@@ -39,6 +44,17 @@ run-left e h = rw (h .0, h .1) (ap afterRun e)
 pub run-named : (from : From) (w j : List ℕ) (base f x : ℤ) (used fuel : ℕ) {w′ j′ : List ℕ} {a : RunAnswer} →
     ran w′ j′ a ≡ runFrom from w base f x used fuel j → Named a
 run-named from w j base f x used fuel e = slots-named from w _ j _ base f x used fuel _ (sym e)
+
+-- ---- a plain run
+
+pub plain-left : {w words : List ℕ} {number : ℕ} {a : PlainAnswer} {r : Played} → played w a ≡ r →
+    (words ≡ plainWords a) × (number ≡ plain.numbers a .number) → leftOne w words number ≡ afterPlain r
+plain-left e h = rw (h .0, h .1) (ap afterPlain e)
+
+-- its slot is a used one
+pub plain-named : (w : List ℕ) (base f x : ℤ) (used fuel places : ℕ) {w′ : List ℕ} {a : PlainAnswer} →
+    played w′ a ≡ plainRun w base f x used fuel places → plainly.Named a
+plain-named w base f x used fuel places e = plain-slot-named w _ base f x used fuel places _ (sym e)
 
 -- ---- an index by name
 

@@ -6,10 +6,14 @@ use native.Mathlib.Nat.{add-zero, zero-add}
 use Rattle.engine.specs.declared.RunAnswer.{RunAnswer}
 use Rattle.engine.specs.declared.RunAnswer.the-variants.{Refused, Done, Stopped}
 use Rattle.engine.specs.Answer.{numbers}
+use Rattle.plain.specs.declared.PlainAnswer.{PlainAnswer}
+use Rattle.plain.specs.declared.PlainAnswer.the-variants as plain
+use Rattle.plain.specs.Answer as plainly
+use Rattle.plain.specs.Run.{played}
 use Rattle.engine.specs.Run.{ran}
 use Rattle.arboricx.specs.Answers.{slotWord}
-use Rattle.arboricx.specs.Calls.{left, afterRun}
-use Rattle.arboricx.specs.Meaning.{LoadWordsAre, RunWordsAre, IndexWordsAre, PartWordsAre}
+use Rattle.arboricx.specs.Calls.{left, afterRun, leftOne, afterPlain}
+use Rattle.arboricx.specs.Meaning.{LoadWordsAre, RunWordsAre, PlainWordsAre, IndexWordsAre, PartWordsAre}
 
 pub load-words-are : LoadWordsAre
 load-words-are w e = (λ n. refl, λ nodes exports. refl)
@@ -26,6 +30,17 @@ run-words-are = (λ i. refl, words)
     words w j (Refused n) = refl
     words w j (Done slot steps used) = rw (add-zero (slotWord slot))
     words w j (Stopped n f x steps used waiting) = rw (zero-add (slotWord f))
+
+pub plain-words-are : PlainWordsAre
+plain-words-are = (words, λ w n. refl, λ w i steps used. refl, λ w n steps used. refl)
+  where
+    words : (w : List ℕ) (a : PlainAnswer) →
+        afterPlain (played w a) ≡
+        leftOne w (plainly.numbers a .number ∷ slotWord (plainly.numbers a .slot) ∷ plainly.numbers a .steps ∷ plainly.numbers a .used ∷ [])
+        (plainly.numbers a .number)
+    words w (plain.Refused n) = refl
+    words w (plain.Done slot steps used) = refl
+    words w (plain.Stopped n steps used) = refl
 
 pub index-words-are : IndexWordsAre
 index-words-are = (λ n. refl, λ i. refl)

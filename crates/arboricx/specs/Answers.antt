@@ -6,6 +6,8 @@ use Rattle.loader.specs.declared.LoadAnswer.{LoadAnswer}
 use Rattle.loader.specs.Answer as load
 use Rattle.engine.specs.declared.RunAnswer.{RunAnswer}
 use Rattle.engine.specs.declared.RunAnswer.the-variants.{Refused, Done, Stopped}
+use Rattle.plain.specs.declared.PlainAnswer.{PlainAnswer}
+use Rattle.plain.specs.declared.PlainAnswer.the-variants as plain
 use Rattle.bundle.specs.declared.exports.IndexAnswer.{IndexAnswer}
 use Rattle.bundle.specs.declared.exports.Part.{Part}
 use Rattle.bundle.specs.Exports as exports
@@ -14,7 +16,7 @@ use Rattle.bundle.specs.Exports as exports
 abbrev pub loadWords : LoadAnswer → List ℕ
 loadWords a = load.numbers a .number ∷ load.numbers a .nodes ∷ load.numbers a .exports ∷ []
 
--- a slot as the word that C reads; none that is answered is negative (SlotsNamed of engine)
+-- a slot as the word that C reads; none that is answered is negative (SlotsNamed of engine, PlainSlotNamed of plain)
 abbrev pub slotWord : ℤ → ℕ
 slotWord (pos i) = i
 slotWord (negsuc i) = 2 ^ 32 - suc i
@@ -24,6 +26,12 @@ abbrev pub runWords : RunAnswer → List ℕ
 runWords (Refused n) = n ∷ 0 ∷ 0 ∷ 0 ∷ 0 ∷ 0 ∷ []
 runWords (Done slot steps used) = 0 ∷ slotWord slot ∷ 0 ∷ steps ∷ used ∷ 0 ∷ []
 runWords (Stopped n f x steps used waiting) = n ∷ slotWord f ∷ slotWord x ∷ steps ∷ used ∷ waiting ∷ []
+
+-- number; result slot; steps; used count
+abbrev pub plainWords : PlainAnswer → List ℕ
+plainWords (plain.Refused n) = n ∷ 0 ∷ 0 ∷ 0 ∷ []
+plainWords (plain.Done slot steps used) = 0 ∷ slotWord slot ∷ steps ∷ used ∷ []
+plainWords (plain.Stopped n steps used) = n ∷ 0 ∷ steps ∷ used ∷ []
 
 -- number, index
 abbrev pub indexWords : IndexAnswer → List ℕ

@@ -5,9 +5,11 @@ use Rattle.loader.specs.Load.{Loaded, loaded}
 use Rattle.loader.specs.Answer as load
 use Rattle.engine.specs.Run.{Ran, ran}
 use Rattle.engine.specs.Answer as run
+use Rattle.plain.specs.Run.{Played, played}
+use Rattle.plain.specs.Answer as plain
 use Rattle.bundle.specs.declared.exports.IndexAnswer.{IndexAnswer}
 use Rattle.bundle.specs.Exports as exports
-use Rattle.arboricx.specs.Answers.{loadWords, runWords, indexWords}
+use Rattle.arboricx.specs.Answers.{loadWords, runWords, plainWords, indexWords}
 
 -- two lent tables, the answer's words, the number returned
 pub data Left : Type 0 where
@@ -20,6 +22,14 @@ afterLoad (loaded words exports a) = left words exports (loadWords a) (load.numb
 -- of a run or a carry-on: the word table and the job table
 abbrev pub afterRun : Ran → Left
 afterRun (ran words jobs a) = left words jobs (runWords a) (run.numbers a .number)
+
+-- one lent table, the answer's words, the number returned
+pub data LeftOne : Type 0 where
+  leftOne : List ℕ → List ℕ → ℕ → LeftOne
+
+-- of a plain run: the word table
+abbrev pub afterPlain : Played → LeftOne
+afterPlain (played words a) = leftOne words (plainWords a) (plain.numbers a .number)
 
 -- the answer's words, the number returned
 pub data Told : Type 0 where

@@ -9,8 +9,12 @@ use Rattle.bundle.specs.declared.exports.IndexAnswer.the-variants as index
 use Rattle.engine.specs.declared.RunAnswer.{RunAnswer}
 use Rattle.engine.specs.Answer.{numbers}
 use Rattle.engine.specs.Run.{ran}
+use Rattle.plain.specs.declared.PlainAnswer.{PlainAnswer}
+use Rattle.plain.specs.declared.PlainAnswer.the-variants.{Refused, Done, Stopped}
+use Rattle.plain.specs.Answer as plain
+use Rattle.plain.specs.Run.{played}
 use Rattle.arboricx.specs.Answers.{slotWord, partWords}
-use Rattle.arboricx.specs.Calls.{left, afterLoad, afterRun, told, afterIndex}
+use Rattle.arboricx.specs.Calls.{left, afterLoad, afterRun, leftOne, afterPlain, told, afterIndex}
 
 -- Of a load: both tables as it leaves them; a refusal's number and zeros, or 0, the node count and the export count; the number.
 abbrev pub LoadWordsAre : Type 0
@@ -30,6 +34,19 @@ RunWordsAre =
     (numbers a .number ∷ (slotWord (numbers a .slot) + slotWord (numbers a .f)) ∷ slotWord (numbers a .x) ∷ numbers a .steps ∷
     numbers a .used ∷ numbers a .waiting ∷ [])
     (numbers a .number))
+
+-- Of a plain run: the table as it leaves it; its numbers, and these are a refusal's number and zeros; 0, the result's slot, the steps and the
+-- used count; or a stop's number, 0, the steps and the used count; the number. The slot is not negative (PlainSlotNamed of plain).
+abbrev pub PlainWordsAre : Type 0
+PlainWordsAre =
+    ((w : List ℕ) (a : PlainAnswer) →
+    afterPlain (played w a) ≡
+    leftOne w
+    (plain.numbers a .number ∷ slotWord (plain.numbers a .slot) ∷ plain.numbers a .steps ∷ plain.numbers a .used ∷ [])
+    (plain.numbers a .number)) ×
+    ((w : List ℕ) (n : ℕ) → afterPlain (played w (Refused n)) ≡ leftOne w (n ∷ 0 ∷ 0 ∷ 0 ∷ []) n) ×
+    ((w : List ℕ) (i steps used : ℕ) → afterPlain (played w (Done (pos i) steps used)) ≡ leftOne w (0 ∷ i ∷ steps ∷ used ∷ []) 0) ×
+    ((w : List ℕ) (n steps used : ℕ) → afterPlain (played w (Stopped n steps used)) ≡ leftOne w (n ∷ 0 ∷ steps ∷ used ∷ []) n)
 
 -- Of an index by name: a refusal's number and 0, or 0 and the index; the number.
 abbrev pub IndexWordsAre : Type 0

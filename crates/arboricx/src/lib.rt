@@ -8,13 +8,17 @@ ghost use Rattle.engine.specs.Answer.{numbers};
 ghost use Rattle.engine.specs.Named.{Named};
 ghost use Rattle.engine.specs.Run.{runFrom};
 ghost use Rattle.engine.specs.declared.From.the-variants.{Scratch, Stop};
-ghost use Rattle.arboricx.specs.Answers.{runWords, partWords};
-ghost use Rattle.arboricx.specs.Calls.{left, afterLoad, afterRun, told, afterIndex};
+ghost use Rattle.plain.specs.Answer as plain;
+ghost use Rattle.plain.specs.Named as plainly;
+ghost use Rattle.plain.specs.Run.{plainRun};
+ghost use Rattle.arboricx.specs.Answers.{runWords, plainWords, partWords};
+ghost use Rattle.arboricx.specs.Calls.{left, afterLoad, afterRun, leftOne, afterPlain, told, afterIndex};
 use bundle::exports::IndexAnswer;
 use bundle::exports::Part;
 use engine::From;
 use engine::RunAnswer;
 use loader::LoadAnswer;
+use plain::PlainAnswer;
 
 // 1 to 20: the number of the first check that holds, or 0 for a sound bundle.
 #[no_mangle]
@@ -132,6 +136,50 @@ pub extern "C" fn arboricx_carry_on(
 {
     let from = From::Stop { waiting, steps };
     run_words(words, jobs, answer, from, base, f, x, used, fuel)
+}
+
+// Writes the words of a plain run's answer. Returns its number.
+fn put_plain(answer: &mut [u32; 4], a: PlainAnswer) -> u32
+    requires { ⌜ plainly.Named a ⌝ }
+    ensures { λ r. ⌜ (now (answer .exit) ≡ plainWords a) × (r ≡ plain.numbers a .number) ⌝ }
+{
+    match a {
+        PlainAnswer::Refused(number) => {
+            *answer = [number, 0, 0, 0];
+            number
+        }
+        PlainAnswer::Done { slot, steps, used } => {
+            *answer = [0, slot as u32, steps, used];
+            0
+        }
+        PlainAnswer::Stopped {
+            number,
+            steps,
+            used,
+        } => {
+            *answer = [number, 0, steps, used];
+            number
+        }
+    }
+}
+
+// Applies slot f to slot x on the plain engine, with room for so many jobs. The answer: number; result slot; steps; used count.
+#[no_mangle]
+pub extern "C" fn arboricx_plain_run(
+    words: &mut [u32],
+    base: i32,
+    f: i32,
+    x: i32,
+    used: u32,
+    fuel: u32,
+    job_room: u32,
+    answer: &mut [u32; 4],
+) -> u32
+    ensures { λ r. ⌜ leftOne (now (words .exit)) (now (answer .exit)) r
+        ≡ afterPlain (plainRun (now (words .entry)) base f x used fuel «job_room») ⌝ }
+{
+    let a = plain::run(words, base, f, x, used, fuel, job_room);
+    put_plain(answer, a)
 }
 
 // The index of the export with a name. The answer: number, index.

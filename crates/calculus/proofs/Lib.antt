@@ -1,6 +1,8 @@
 pub mod Cases
 pub mod DoneStays
 pub mod FuelCuts
-pub mod DoneExactly
 pub mod Stops
 pub mod StepsSpent
+pub mod Costs
+pub mod DoneByCost
+pub mod DoneExactly

@@ -7,7 +7,7 @@ use lib.ListN.{length}
 use Rattle.calculus.specs.Tree.{Tree, leaf, stem, fork}
 use Rattle.calculus.specs.Rules.{Frame}
 use Rattle.calculus.specs.Machine.{State, start, Stop, no-fuel, no-slot, no-place, stopNumber, Ending, ended, stopped, Outcome, run}
-use Rattle.calculus.specs.BigStep.{_·_⇓_}
+use Rattle.calculus.specs.BigStep.{_·_⇓_, Costs}
 
 -- "Before a step, in this order: no fuel, stop 31; rule 1 or 2 comes next and no slot is left, stop 32; rule 4 or 7 comes next and
 -- no job place is left, stop 33": when a run of f on x, with some frames that wait, stops before its first step
@@ -80,3 +80,21 @@ Reaches f x t = (fuel : ℕ) × (free : ℕ) × (places : ℕ) × (run fuel free
 -- The machine is done with t exactly when the seven rules give t.
 abbrev pub DoneExactly : Type 0
 DoneExactly = (f x t : Tree) → (Reaches f x t → f · x ⇓ t) × (f · x ⇓ t → Reaches f x t)
+
+-- What the seven rules give has a cost, and just one.
+abbrev pub CostsExactly : Type 0
+CostsExactly = (f x t : Tree) → (f · x ⇓ t) ↔ ((n : ℕ) × (m : ℕ) × (k : ℕ) × Costs f x t n m k)
+
+abbrev pub OneCost : Type 0
+OneCost =
+    (f x t t′ : Tree) (n m k n′ m′ k′ : ℕ)
+    → Costs f x t n m k → Costs f x t′ n′ m′ k′ → (t ≡ t′) × (n ≡ n′) × (m ≡ m′) × (k ≡ k′)
+
+-- The machine is done with t, by n steps and with m nodes made, exactly when the seven rules give t at that cost and there is
+-- enough of everything: fuel, free slots, and places for the jobs.
+abbrev pub DoneByCost : Type 0
+DoneByCost =
+    (fuel free places n m : ℕ) (f x t : Tree)
+    → ((made : List Tree) × (length made ≡ m)
+    × (run fuel free places (start f x) ≡ record { ending = ended t; steps = n; made = made }))
+    ↔ ((k : ℕ) × Costs f x t n m k × (n ≤ fuel) × (m ≤ free) × (k ≤ places))

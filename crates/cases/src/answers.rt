@@ -1,4 +1,4 @@
-// The line of what a run answers.
+// The lines of what runs answer.
 use crate::output::decimal;
 use crate::output::text;
 use libc::STDOUT_FILENO;
@@ -47,5 +47,18 @@ pub fn cut_line(number: u32, result: i32, f: i32, x: i32, steps: u32, used: u32,
     decimal(used);
     text(b" ");
     decimal(waiting);
+    text(b"\n");
+}
+
+// The paper's numbers of a run on the plain engine; those that an answer does not name are 0.
+pub fn plain_line(number: u32, result: i32, steps: u32, used: u32) {
+    text(b"plain ");
+    decimal(number);
+    text(b" slot ");
+    slot(result);
+    text(b" steps ");
+    decimal(steps);
+    text(b" used ");
+    decimal(used);
     text(b"\n");
 }

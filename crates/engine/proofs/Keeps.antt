@@ -30,7 +30,7 @@ use Rattle.engine.specs.Ready.{Ready, Waits, Asks, Carries}
 
 -- ---- a bound may grow
 
-below-more : (n m : ℕ) → n ≤ m → (node : Node) → Below n node → Below m node
+pub below-more : (n m : ℕ) → n ≤ m → (node : Node) → Below n node → Below m node
 below-more n m h Leaf b = tt
 below-more n m h (Stem a) b = omega arith
 below-more n m h (Fork a c) b = (omega arith, omega arith)

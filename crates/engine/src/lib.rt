@@ -132,7 +132,7 @@ fn drive(words: &mut [u32], jobs: &mut [u32], start: State, fuel: Fuel) -> RunAn
 }
 
 // 21, 23 and 24, in that order, or the state that a run starts from.
-fn admit(words: &[u32], f: i32, x: i32, used: u32) -> Admission
+pub fn admit(words: &[u32], f: i32, x: i32, used: u32) -> Admission
     ensures { λ r. ⌜ r ≡ admit (now (words .entry)) f x used ⌝ }
 {
     if used == 0 {

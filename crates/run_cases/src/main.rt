@@ -1,8 +1,9 @@
-// Makes the call of each case of the input, a run or a carry-on, and writes what it answers and the two tables that it
-// leaves. A run is made in two parts too, as often as the case says.
+// Makes the call of each case of the input, a run, a carry-on or a plain run, and writes what it answers and the tables
+// that it leaves. A run is made in two parts too, as often as the case says, and with fuel up to 1,000 on the plain engine.
 ghost use Prim.Native.Nat.{_≤_};
 ghost use lib.ListN.{length};
 use cases::answers::cut_line;
+use cases::answers::plain_line;
 use cases::answers::run_line;
 use cases::input::at_most;
 use cases::input::behind;
@@ -11,6 +12,7 @@ use cases::input::signed;
 use cases::output::show_table;
 use engine::RunAnswer;
 use engine::carry_on;
+use plain::PlainAnswer;
 use std::num::wrapping_sub_u32;
 
 // The paper's numbers; those not named are 0.
@@ -40,8 +42,8 @@ fn fill(table: &mut [u32], s: &[u8], at: usize)
     }
 }
 
-// A case: where its tables stand, and what is asked. A carry-on where call is 1, else a run, and then steps is how often
-// it is cut.
+// A case: where its tables stand, and what is asked. A carry-on where call is 1; a plain run where it is 2, and then
+// waiting is the job room; else a run, and then steps is how often it is cut.
 struct Case {
     words_at: usize,
     jobs_at: usize,
@@ -184,16 +186,150 @@ fn show_cuts(words: &[u32], jobs: &[u32], s: &[u8], a: Case)
     }
 }
 
-// A case on tables that are filled from the input.
-fn show_call(words: &mut [u32], jobs: &mut [u32], s: &[u8], a: Case)
+// What the run call and the plain engine answer alike.
+struct Ending {
+    number: u32,
+    slot: i32,
+    steps: u32,
+    used: u32,
+}
+
+fn run_ending(a: RunAnswer) -> Ending {
+    match a {
+        RunAnswer::Refused(number) => Ending {
+            number,
+            slot: 0,
+            steps: 0,
+            used: 0,
+        },
+        RunAnswer::Done { slot, steps, used } => Ending {
+            number: 0,
+            slot,
+            steps,
+            used,
+        },
+        RunAnswer::Stopped {
+            number,
+            f,
+            x,
+            steps,
+            used,
+            waiting,
+        } => Ending {
+            number,
+            slot: 0,
+            steps,
+            used,
+        },
+    }
+}
+
+fn plain_ending(a: PlainAnswer) -> Ending {
+    match a {
+        PlainAnswer::Refused(number) => Ending {
+            number,
+            slot: 0,
+            steps: 0,
+            used: 0,
+        },
+        PlainAnswer::Done { slot, steps, used } => Ending {
+            number: 0,
+            slot,
+            steps,
+            used,
+        },
+        PlainAnswer::Stopped {
+            number,
+            steps,
+            used,
+        } => Ending {
+            number,
+            slot: 0,
+            steps,
+            used,
+        },
+    }
+}
+
+fn play_plain(words: &mut [u32], a: Case, places: u32) -> Ending {
+    plain_ending(plain::run(words, a.base, a.f, a.x, a.used, a.fuel, places))
+}
+
+fn same_ending(a: Ending, b: Ending) -> bool {
+    a.number == b.number && a.slot == b.slot && a.steps == b.steps && a.used == b.used
+}
+
+fn show_ending(a: Ending) {
+    plain_line(a.number, a.slot, a.steps, a.used);
+}
+
+// A run on the plain engine, on a table that is filled from the input: what it answers and the table, each where it is
+// not what the run answered and left.
+fn compare(words: &mut [u32], words_left: &[u32], places: u32, s: &[u8], a: Case, due: Ending)
+    requires { ⌜ length (now words) ≤ 120 ⌝ }
+{
+    fill(words, s, a.words_at);
+    let found = play_plain(words, a, places);
+    if !same_ending(found, due) {
+        show_ending(found);
+    }
+    show_other(b"words", words, words_left);
+}
+
+// A run on the plain engine too, unless its fuel is above 1,000. No job table of a case has more than 8 places.
+fn show_difference(words: &[u32], jobs: &[u32], s: &[u8], a: Case, due: Ending)
     requires { ⌜ (length (now words) ≤ 120) × (length (now jobs) ≤ 24) ⌝ }
+{
+    if a.call == 1 {
+        return;
+    }
+    if 1000 < a.fuel {
+        return;
+    }
+    let mut again: [u32; 120] = [0; 120];
+    let n = words.len();
+    let places = (jobs.len() / 3) as u32;
+    compare(&mut again[0..n], words, places, s, a, due);
+}
+
+// A plain run on a table that is filled from the input.
+fn show_plain(words: &mut [u32], s: &[u8], a: Case)
+    requires { ⌜ length (now words) ≤ 120 ⌝ }
+{
+    fill(words, s, a.words_at);
+    show_ending(play_plain(words, a, a.waiting));
+    show_table(b"words", words);
+}
+
+// A run or a carry-on on tables that are filled from the input.
+fn play_anew(words: &mut [u32], jobs: &mut [u32], s: &[u8], a: Case) -> RunAnswer
+    requires { ⌜ (length (now words) ≤ 120) × (length (now jobs) ≤ 120) ⌝ }
 {
     fill(words, s, a.words_at);
     fill(jobs, s, a.jobs_at);
-    show_answer(play(words, jobs, a));
+    play(words, jobs, a)
+}
+
+fn show_left(words: &[u32], jobs: &[u32], answer: RunAnswer) {
+    show_answer(answer);
     show_table(b"words", words);
     show_table(b"jobs", jobs);
+}
+
+// A run in the other ways: in two parts, and on the plain engine.
+fn show_again(words: &[u32], jobs: &[u32], s: &[u8], a: Case, answer: RunAnswer)
+    requires { ⌜ (length (now words) ≤ 120) × (length (now jobs) ≤ 24) ⌝ }
+{
     show_cuts(words, jobs, s, a);
+    show_difference(words, jobs, s, a, run_ending(answer));
+}
+
+fn show_call(words: &mut [u32], jobs: &mut [u32], s: &[u8], a: Case)
+    requires { ⌜ (length (now words) ≤ 120) × (length (now jobs) ≤ 24) ⌝ }
+{
+    let answer = play_anew(words, jobs, s, a);
+    show_left(words, jobs, answer);
+    show_again(words, jobs, s, a, answer);
 }
 
 // A case: a table, what is asked, and a job table, each table after its length. Answers where the next case stands.
@@ -206,7 +342,11 @@ fn show_case(s: &[u8], at: usize) -> usize {
     let m = at_most(number(s, behind(asked, 8)), 24);
     let a = case_at(s, start, asked);
     let next = behind(a.jobs_at, m);
-    show_call(&mut words[0..n], &mut jobs[0..m], s, a);
+    if a.call == 2 {
+        show_plain(&mut words[0..n], s, a);
+    } else {
+        show_call(&mut words[0..n], &mut jobs[0..m], s, a);
+    }
     next
 }
 

@@ -142,12 +142,22 @@ module _ (j : List ℕ) (i : ℕ) (f : Frame) where
   pub zero-put : ZeroFrom j i → ZeroFrom (putFrame j i f) (suc i)
   zero-put z = zero-over (λ k h. z k (omega arith))
 
+  -- the words below the place stay
+  pub frame-under : (k : ℕ) → k < frameWidth * i → getD (putFrame j i f) k 0 ≡ getD j k 0
+  unfolding putFrame
+  frame-under k h = outside j i (recordOf f) k (omega arith) (omega arith) (omega arith)
+
 -- the frame at place i goes
 module _ (j : List ℕ) (i : ℕ) where
   -- the table is as long
   pub length-drop : length (dropFrame j i) ≡ length j
   unfolding dropFrame
   length-drop = length-record j i none
+
+  -- the words below the place stay
+  pub drop-under : (k : ℕ) → k < frameWidth * i → getD (dropFrame j i) k 0 ≡ getD j k 0
+  unfolding dropFrame
+  drop-under k h = outside j i none k (omega arith) (omega arith) (omega arith)
 
   -- each other place has the words that it had, and holds what it held
   pub record-dropped : (k : ℕ) → (k ≡ i → ⊥) → recordAt (dropFrame j i) k ≡ recordAt j k

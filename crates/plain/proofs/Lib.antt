@@ -1,0 +1,11 @@
+pub mod RuleLaws
+pub mod RuleWays
+pub mod Depth
+pub mod Keeps
+pub mod Ways
+pub mod CallWays
+pub mod Sim
+pub mod PlainIsRun
+pub mod Named
+pub mod TooDeep
+pub mod Cases

@@ -1,0 +1,8 @@
+pub mod Rules
+pub mod Apply
+pub mod Fit
+pub mod Run
+pub mod Answer
+pub mod Named
+pub mod Meaning
+pub mod Cases
