@@ -29,12 +29,12 @@ use Rattle.engine.specs.declared.From.{From}
 use Rattle.engine.specs.declared.From.the-variants.{Scratch, Stop}
 use Rattle.engine.specs.Answer.{numbers}
 use Rattle.guarantees.specs.Agrees.{Agrees}
-use Rattle.guarantees.specs.Run.{RunCall, stepsBefore, TooMany, Waiting, later, SimulatesFrom, refusal, started as let-start}
+use Rattle.guarantees.specs.Run.{RunCall, stepsBefore, TooMany, Waiting, later, SimulatesFrom, started as let-start}
 use Rattle.guarantees.specs.Run.{OutOfTable, base-negative, base-past, above-room, Misplaced, negative, not-used, Damaged, JobsDamaged}
 use Rattle.guarantees.proofs.Calls.{jobs-are-sound, tableFrom, stateFrom, run-behind}
 use Rattle.guarantees.proofs.Simulates.{Sim}
 use Rattle.guarantees.proofs.RunSimulates.{starts, first-stands, run-simulates}
-use Rattle.guarantees.proofs.Verdict.{out, misplaced, damaged, too-many, started, Judged, verdict}
+use Rattle.guarantees.proofs.Verdict.{out, misplaced, damaged, at-last, started, Judged, verdict}
 
 -- what such a call works on
 pub record Begins (from : From) (w j : List ℕ) (base f x : ℤ) (used fuel : ℕ) : Type 0 where
@@ -168,22 +168,22 @@ module _ {from : From} {w j : List ℕ} {base f x : ℤ} {used fuel : ℕ} (s : 
       (slots-sound-test (drop (s .at) w) used .1 (s .slots)) (s .f-holds) (s .x-holds) from (s .waits)
 
 -- a run that was let start
-module _ (from : From) (w v j k : List ℕ) (base f x : ℤ) (used fuel : ℕ) (a : RunAnswer) (goes : let-start (numbers a) ≡ true) where
+module _ (from : From) (w v j k : List ℕ) (base f x : ℤ) (used fuel : ℕ) (a : RunAnswer) (goes : let-start (numbers a .number) ≡ true) where
   abbrev Begun : Type 0
   Begun =
       (s : Begins from w j base f x used fuel) × Agrees (drop (s .at) w) used j (drop (s .at) v) k (numbers a) (outcome s)
 
   -- is no refusal
-  not-refused : (n : ℕ) → let-start (refusal n) ≡ false → ran w j (Refused n) ≡ ran v k a → Begun
+  not-refused : (n : ℕ) → let-start n ≡ false → ran w j (Refused n) ≡ ran v k a → Begun
   not-refused n z e =
       let y : Refused n ≡ a = cc in
-      absurd (false≢true (sym z ∙ ap (λ (x : RunAnswer). let-start (numbers x)) y ∙ goes))
+      absurd (false≢true (sym z ∙ ap (λ (x : RunAnswer). let-start (numbers x .number)) y ∙ goes))
 
   judged : (r : Ran) → Judged from w j base f x used fuel r → runFrom from w base f x used fuel j ≡ r → r ≡ ran v k a → Begun
   judged r (out o) q e = not-refused 21 refl e
   judged r (misplaced o m) q e = not-refused 23 refl e
   judged r (damaged o m d) q e = not-refused 24 refl e
-  judged r (too-many o m d n) q e = not-refused 40 refl e
+  judged r (at-last o m d n) q e = not-refused 40 refl e
   judged r (started o m d n u) q e =
       let s = begins from w j base f x used fuel o m d n in
       let (v′, k′, a′, c, h) = comes s (runFrom from) (run-simulates from) in

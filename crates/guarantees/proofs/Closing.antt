@@ -4,6 +4,8 @@ use Rattle.calculus.proofs.Cases.{cases-hold, further-hold}
 use Rattle.calculus.proofs.DoneExactly.{done-exactly}
 use Rattle.calculus.proofs.StepsSpent.{steps-spent}
 use Rattle.calculus.proofs.Stops.{stops-exactly}
+use Rattle.calculus.proofs.Costs.{costs-exactly, one-cost}
+use Rattle.calculus.proofs.DoneByCost.{done-by-cost}
 use Rattle.table.specs.Slots.{room}
 use Rattle.table.proofs.SoundFrames.{one-frame-list}
 use Rattle.engine.specs.Run.{runFrom}
@@ -22,6 +24,8 @@ use Rattle.guarantees.proofs.OneOrder.{one-order, one-start}
 use Rattle.guarantees.proofs.OnlyLoad.{only-load}
 use Rattle.guarantees.proofs.OnlyRun.{only-run}
 use Rattle.guarantees.proofs.OnlySession.{only-session}
+use Rattle.guarantees.proofs.PlainRefused.{plain-number-tells, plain-one-answer}
+use Rattle.guarantees.proofs.OnlyPlain.{only-plain}
 use Rattle.guarantees.proofs.Demands.{goes-on}
 
 only-runs : OnlyRuns
@@ -38,8 +42,11 @@ closing =
       only-index = only-index;
       only-run = only-run;
       only-runs = only-runs;
+      only-plain = only-plain;
       run-tells = number-tells;
       one-answer = one-answer;
+      plain-tells = plain-number-tells;
+      plain-one-answer = plain-one-answer;
       index-tells = index-tells;
       one-order = one-order;
       one-start = one-start;
@@ -62,6 +69,9 @@ agreeing =
       done-exactly = done-exactly;
       steps-spent = steps-spent;
       stops-exactly = stops-exactly;
+      costs-exactly = costs-exactly;
+      one-cost = one-cost;
+      done-by-cost = done-by-cost;
       session-blind = session-blind;
       no-fuel-keeps = no-fuel-keeps;
     }

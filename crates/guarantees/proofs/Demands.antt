@@ -8,6 +8,7 @@ use Rattle.table.specs.Slots.{room}
 use Rattle.table.proofs.SlotLaws.{room-long, room-is}
 use Rattle.table.proofs.FrameLaws.{job-room-is, job-words}
 use Rattle.engine.specs.Run.{runFrom}
+use Rattle.plain.proofs.PlainIsRun.{plain-is-run}
 use Rattle.soundness.proofs.ExportCalls.{name-by-index, name-refused, name-bytes, name-in-file}
 use Rattle.soundness.proofs.ExportCalls.{index-by-name, no-such-name, empty-name, index-refused}
 use Rattle.soundness.proofs.Meaning as checks
@@ -31,6 +32,10 @@ use Rattle.guarantees.proofs.LoadBlind.{load-blind}
 use Rattle.guarantees.proofs.LoadLeaves.{load-leaves}
 use Rattle.guarantees.proofs.JobsSound.{jobs-sound}
 use Rattle.guarantees.proofs.RunZero.{leaf-in, run-zero}
+use Rattle.guarantees.proofs.PlainRefused.{plain-refused-exactly, plain-refusal-keeps}
+use Rattle.guarantees.proofs.PlainBlind.{plain-blind}
+use Rattle.guarantees.proofs.PlainZero.{plain-zero}
+use Rattle.guarantees.proofs.PlainDone.{plain-done-exactly}
 
 pub demand-1 : Demand1
 demand-1 =
@@ -38,6 +43,8 @@ demand-1 =
       load-kept = load-refusal-keeps;
       run-refused = refused-exactly;
       run-kept = refusal-keeps;
+      plain-refused = plain-refused-exactly;
+      plain-kept = plain-refusal-keeps;
       name-by-index = name-by-index;
       name-refused = name-refused;
       name-bytes = name-bytes;
@@ -48,10 +55,12 @@ demand-1 =
       index-refused = index-refused;
       load-blind = load-blind;
       run-blind = base-blind;
+      plain-blind = plain-blind;
       load-zero = λ file words words′ base exports exports′ a e z.
           let l = load-leaves file words words′ base exports exports′ a e z in
           (l .at, l .base-is, leaf-in (l .holding .slots .fits) (l .holding .zero));
       run-zero = run-zero;
+      plain-zero = plain-zero;
       room-is = room-is;
       job-room-is = job-room-is;
       job-words = job-words;
@@ -93,4 +102,6 @@ demand-3 =
       done-stays = done-stays;
       fuel-in-parts = fuel-in-parts;
       stops-carry-on = stops-carry-on;
+      plain-is-run = plain-is-run;
+      plain-done = plain-done-exactly;
     }

@@ -40,7 +40,7 @@ use Rattle.engine.proofs.Keeps.{Left, step-keeps, waits-none}
 use Rattle.engine.proofs.CallWays.{sound-waits}
 use Rattle.guarantees.specs.Run.{TooMany, SameJobs, DoneStays}
 use Rattle.guarantees.proofs.Calls.{go-refused, stateFrom, go-started, run-behind}
-use Rattle.guarantees.proofs.Verdict.{Ended, Verdict, out, misplaced, damaged, too-many, started, verdict}
+use Rattle.guarantees.proofs.Verdict.{Ended, RunVerdict, out, misplaced, damaged, at-last, started, verdict}
 use Rattle.guarantees.proofs.SameSteps.{SameWords, SameFrames, Unless, Same, Stays, frames-cleared, step-stays}
 
 -- if the first run is done, so is the second, with the same answer, and the used slots are the same
@@ -197,11 +197,11 @@ module _ (w v j k : List ℕ) (a : RunAnswer) (z : numbers a .number ≡ 0) wher
       let q : n ≡ 0 = sym (ap (λ (x : RunAnswer). numbers x .number) e) ∙ z in
       absurd (omega arith)
 
-  done-is : {A B C D : Type 0} {r : Ran} → Verdict w j A B C D r → r ≡ ran v k a → IsDoneRun
+  done-is : {A B C D : Type 0} {r : Ran} → RunVerdict w j A B C D r → r ≡ ran v k a → IsDoneRun
   done-is (out o) e = not-refused 21 (omega arith) e
   done-is (misplaced o m) e = not-refused 23 (omega arith) e
   done-is (damaged o m d) e = not-refused 24 (omega arith) e
-  done-is (too-many o m d n) e = not-refused 40 (omega arith) e
+  done-is (at-last o m d n) e = not-refused 40 (omega arith) e
   done-is (started o m d n h) e = ended-done a refl (subst Ended e h)
 
 -- more fuel and room: the same answer and used slots

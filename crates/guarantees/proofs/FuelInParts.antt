@@ -27,7 +27,7 @@ use Rattle.guarantees.proofs.Calls.{run-behind}
 use Rattle.guarantees.proofs.Simulates.{frames-count, frames-turned, Sim}
 use Rattle.guarantees.proofs.Simulates.{Turns, turns-going, turns-done, turns-no-slot, turns-no-place, steps}
 use Rattle.guarantees.proofs.RunSimulates.{starts}
-use Rattle.guarantees.proofs.Verdict.{out, misplaced, damaged, too-many, started, Judged, verdict}
+use Rattle.guarantees.proofs.Verdict.{out, misplaced, damaged, at-last, started, Judged, verdict}
 use Rattle.guarantees.proofs.RefusalKeeps.{number-tells, one-answer}
 use Rattle.guarantees.proofs.RefusedExactly.{refused-exactly}
 use Rattle.guarantees.proofs.Begins.{Begins, begins, first, drives, stands, begun}
@@ -85,7 +85,7 @@ not-many (Stop waiting steps) fuel l h = omega arith
 
 module _ (from : From) (w j : List ℕ) (base f x : ℤ) (used : ℕ) where
   -- a refusal by its number is that case of the answer
-  is-refused : (fuel q : ℕ) → Listed q → (r : Ran) → runFrom from w base f x used fuel j ≡ r → RefusedWith q w j r
+  is-refused : (fuel q : ℕ) → Listed 40 q → (r : Ran) → runFrom from w base f x used fuel j ≡ r → RefusedWith q w j r
       → r ≡ ran w j (Refused q)
   is-refused fuel q l (ran v k a) e (z, p, i) =
       cc (one-answer a (Refused q) (number-tells from w v j k base f x used fuel a e) l z, p, i)
@@ -95,7 +95,7 @@ module _ (from : From) (w j : List ℕ) (base f x : ℤ) (used : ℕ) where
     short = runFrom from w base f x used m j
 
     -- what is refused with the sum is refused with the first part
-    both-refused : (q : ℕ) → Listed q → eqb q 31 ≡ false → RefusedWith q w j short → nextPart runFrom base n short ≡ ran w j (Refused q)
+    both-refused : (q : ℕ) → Listed 40 q → eqb q 31 ≡ false → RefusedWith q w j short → nextPart runFrom base n short ≡ ran w j (Refused q)
     both-refused q l z h = rw (is-refused m q l short refl h, z)
 
     both-begin : Begins from w j base f x used (m + n) → nextPart runFrom base n short ≡ runFrom from w base f x used (m + n) j
@@ -114,7 +114,7 @@ module _ (from : From) (w j : List ℕ) (base f x : ℤ) (used : ℕ) where
         both-refused 23 (inr (inl refl)) refl (refused-exactly from w j base f x used m .1 .1 (o, p))
     judged r (damaged o p d) e =
         both-refused 24 (inr (inr (inl refl))) refl (refused-exactly from w j base f x used m .2 .1 (o, p, d))
-    judged r (too-many o p d t) e = absurd (not-many from (m + n) most t)
+    judged r (at-last o p d t) e = absurd (not-many from (m + n) most t)
     judged r (started o p d t h) e = both-begin (begins from w j base f x used (m + n) o p d t) ∙ e
 
     one-part : nextPart runFrom base n short ≡ runFrom from w base f x used (m + n) j

@@ -30,5 +30,12 @@ pub mod FuelInParts
 pub mod StopsCarryOn
 pub mod OnlyRun
 pub mod OnlySession
+pub mod PlainTwin
+pub mod PlainVerdict
+pub mod PlainRefused
+pub mod PlainBlind
+pub mod PlainZero
+pub mod PlainDone
+pub mod OnlyPlain
 pub mod Demands
 pub mod Closing

@@ -21,7 +21,7 @@ use Rattle.guarantees.specs.Run.{RunCall, SimulatesFrom, RefusedFrom, Re
 use Rattle.guarantees.specs.OnlyRun.{SameSince, SameTables, SameEnd, same-done, same-stop}
 use Rattle.guarantees.specs.OnlyRun.{SameCall, both-refused, both-ended, OnlyRun}
 use Rattle.guarantees.proofs.RunSimulates.{run-simulates}
-use Rattle.guarantees.proofs.Verdict.{out, misplaced, damaged, too-many, started, Judged, verdict}
+use Rattle.guarantees.proofs.Verdict.{out, misplaced, damaged, at-last, started, Judged, verdict}
 use Rattle.guarantees.proofs.Begins.{Begins, begins, comes}
 
 -- ---- both end
@@ -100,7 +100,7 @@ module _ (from : From) (call : RunCall) (refuses : RefusedFrom from call) (simul
   judged r e (out o) = alike 21 other (refuses w j base f x used fuel .0 .1 o)
   judged r e (misplaced o m) = alike 23 other (refuses w j base f x used fuel .1 .1 (o, m))
   judged r e (damaged o m d) = alike 24 other (refuses w j base f x used fuel .2 .1 (o, m, d))
-  judged r e (too-many o m d n) = alike 40 other (refuses w j base f x used fuel .3 .1 (o, m, d, n))
+  judged r e (at-last o m d n) = alike 40 other (refuses w j base f x used fuel .3 .1 (o, m, d, n))
   judged r e (started o m d n h) =
       subst (SameCall w j used base other) e (begun (begins from w j base f x used fuel o m d n))
 

@@ -27,7 +27,7 @@ agrees-zero (agrees-done h l) = leaf-in (l .slots .fits) (l .zero)
 agrees-zero (agrees-stop f x s l) = leaf-in (l .slots .fits) (l .zero)
 
 pub run-zero : (from : From) (words words′ jobs jobs′ : List ℕ) (base f x : ℤ) (used fuel : ℕ) (a : RunAnswer) →
-    runFrom from words base f x used fuel jobs ≡ ran words′ jobs′ a → started (numbers a) ≡ true → ZeroIsLeaf base words′
+    runFrom from words base f x used fuel jobs ≡ ran words′ jobs′ a → started (numbers a .number) ≡ true → ZeroIsLeaf base words′
 run-zero from w v j k base f x used fuel a e s =
     let (b, agrees) = begun from w v j k base f x used fuel a s e in
     (b .at, b .base-is, agrees-zero agrees)

@@ -23,7 +23,7 @@ use Rattle.engine.specs.declared.From.{From}
 use Rattle.engine.specs.declared.From.the-variants.{Scratch, Stop}
 use Rattle.engine.specs.Answer.{Numbers, numbers}
 use Rattle.guarantees.specs.Agrees.{Leaves, Agrees, agrees-done, agrees-stop}
-use Rattle.guarantees.specs.Run.{RunCall, Calls, TooMany, SimulatesFrom, RunSimulates, RefusedFrom, RefusedExactly, refusal, RefusedWith, started}
+use Rattle.guarantees.specs.Run.{RunCall, Calls, TooMany, SimulatesFrom, RunSimulates, RefusedFrom, RefusedExactly, RefusedWith, started}
 use Rattle.guarantees.specs.Run.{OutOfTable, base-past, none-used, above-room, Misplaced, Damaged}
 use Rattle.guarantees.specs.Session.{ToRun, Request, to-run, Bring, Found, found, Reply, refused, answered}
 use Rattle.guarantees.specs.Session.{framesIn, tooMany, replyTo, reply, storeAfter, Table, answer, tableAfter}
@@ -58,12 +58,12 @@ module _ {w j v k : List ℕ} {n : ℕ} where
       }
 
 -- a run that agrees was let start
-stop-starts : (why : Reason) → started (refusal (stopNumber why)) ≡ true
+stop-starts : (why : Reason) → started (stopNumber why) ≡ true
 stop-starts no-fuel = refl
 stop-starts no-slot = refl
 stop-starts no-place = refl
 
-pub agrees-starts : {w j v k : List ℕ} {n : ℕ} {a : Numbers} {o : Outcome} → Agrees w n j v k a o → started a ≡ true
+pub agrees-starts : {w j v k : List ℕ} {n : ℕ} {a : Numbers} {o : Outcome} → Agrees w n j v k a o → started (a .number) ≡ true
 agrees-starts (agrees-done h l) = refl
 agrees-starts (agrees-stop {why = why} f x s l) = stop-starts why
 
@@ -101,7 +101,7 @@ module _ (w : List ℕ) (n : ℕ) (store : List Tree) (good : Holding w n store)
     abbrev b : ℕ
     b = length (c .before)
 
-    goes-refused : (m : ℕ) → started (refusal m) ≡ false → (r : Ran) → RefusedWith m (c .before ++ w) (c .jobs) r
+    goes-refused : (m : ℕ) → started m ≡ false → (r : Ran) → RefusedWith m (c .before ++ w) (c .jobs) r
         → Goes b (to-run c) r (refused m)
     goes-refused m z (ran v k a) (e, p, q) =
         let d : drop b v ≡ w = ap (drop b) p ∙ drop-append-seam (c .before) w in

@@ -24,14 +24,14 @@ use Rattle.guarantees.specs.Onward.{numbersOf, MayGoOn, StopsCarryOn}
 use Rattle.guarantees.proofs.Calls.{stateFrom, go-too-many, run-behind}
 use Rattle.guarantees.proofs.RunSimulates.{admitted, starts, run-simulates}
 use Rattle.guarantees.proofs.Verdict.{Ended, unrefused, drive-ended}
-use Rattle.guarantees.proofs.Verdict.{out, misplaced, damaged, too-many, started, Judged, verdict}
+use Rattle.guarantees.proofs.Verdict.{out, misplaced, damaged, at-last, started, Judged, verdict}
 use Rattle.guarantees.proofs.Begins.{Begins, begins, comes}
 
 -- let start, or refused with 40
 abbrev LetOn : List ℕ → List ℕ → Ran → Type 0
-LetOn w j r = (let-start (numbersOf r) ≡ true) ⊎ RefusedWith 40 w j r
+LetOn w j r = (let-start (numbersOf r .number) ≡ true) ⊎ RefusedWith 40 w j r
 
-started-on : (before : List ℕ) (r : Ran) → Ended r → let-start (numbersOf (behind before r)) ≡ true
+started-on : (before : List ℕ) (r : Ran) → Ended r → let-start (numbersOf (behind before r) .number) ≡ true
 started-on before (ran w j a) h = unrefused (ran w j a) h
 
 -- what agrees with the machine and is stopped
@@ -73,7 +73,7 @@ module _ (from : From) (w j : List ℕ) (base f x : ℤ) (used fuel more : ℕ) 
   judged r (out o) e = λ h. absurd (omega (arith, h .0))
   judged r (misplaced o m) e = λ h. absurd (omega (arith, h .0))
   judged r (damaged o m d) e = λ h. absurd (omega (arith, h .0))
-  judged r (too-many o m d n) e = λ h. absurd (omega (arith, h .1))
+  judged r (at-last o m d n) e = λ h. absurd (omega (arith, h .1))
   judged r (started o m d n u) e = subst (MayGoOn base more) e (may (begins from w j base f x used fuel o m d n))
 
 pub stops-carry-on : StopsCarryOn

@@ -33,7 +33,7 @@ use Rattle.engine.specs.Run.{runTail, behind, runFrom}
 use Rattle.engine.specs.declared.From.{From}
 use Rattle.engine.specs.declared.From.the-variants.{Scratch, Stop}
 use Rattle.engine.specs.Answer.{numbers}
-use Rattle.guarantees.specs.Run.{started as let-start}
+use Rattle.guarantees.specs.Run.{started as let-start, Listed}
 use Rattle.guarantees.specs.Run.{OutOfTable, base-negative, base-past, none-used, above-room}
 use Rattle.guarantees.specs.Run.{Misplaced, negative, not-used, Damaged, JobsDamaged, TooMany}
 use Rattle.guarantees.proofs.Calls.{go-refused}
@@ -48,7 +48,7 @@ Ended (ran w j (Stopped n f x steps used waiting)) = (31 ≤ n) × (n ≤ 33)
 
 -- its numbers are those of a run that was let start
 abbrev pub Unrefused : Ran → Type 0
-Unrefused (ran w j a) = let-start (numbers a) ≡ true
+Unrefused (ran w j a) = let-start (numbers a .number) ≡ true
 
 pub unrefused : (r : Ran) → Ended r → Unrefused r
 unrefused (ran w j (Refused n)) h = absurd h
@@ -95,18 +95,44 @@ placed-well z used s e = let p = place-at z used s e in used-placed (p .0) (p .1
 
 -- ---- the verdict
 
--- what a call comes to, where A, B, C and D are the reasons of 21, 23, 24 and 40
-pub data Verdict (w j : List ℕ) (A B C D : Type 0) : Ran → Type 0 where
-  out : A → Verdict w j A B C D (ran w j (Refused 21))
-  misplaced : (A → ⊥) → B → Verdict w j A B C D (ran w j (Refused 23))
-  damaged : (A → ⊥) → (B → ⊥) → C → Verdict w j A B C D (ran w j (Refused 24))
-  too-many : (A → ⊥) → (B → ⊥) → (C → ⊥) → D → Verdict w j A B C D (ran w j (Refused 40))
-  started : {r : Ran} → (A → ⊥) → (B → ⊥) → (C → ⊥) → (D → ⊥) → Ended r → Verdict w j A B C D r
+-- what a call comes to, where A, B, C and D are the reasons of 21, 23, 24 and a last number
+pub data Verdict {R : Type 0} (refused : ℕ → R) (last : ℕ) (Goes : R → Type 0) (A B C D : Type 0) : R → Type 0 where
+  out : A → Verdict refused last Goes A B C D (refused 21)
+  misplaced : (A → ⊥) → B → Verdict refused last Goes A B C D (refused 23)
+  damaged : (A → ⊥) → (B → ⊥) → C → Verdict refused last Goes A B C D (refused 24)
+  at-last : (A → ⊥) → (B → ⊥) → (C → ⊥) → D → Verdict refused last Goes A B C D (refused last)
+  started : {r : R} → (A → ⊥) → (B → ⊥) → (C → ⊥) → (D → ⊥) → Goes r → Verdict refused last Goes A B C D r
 
--- the verdict by a call's own reasons
+-- what was not let start has a number of the list,
+pub listed : {R : Type 0} {refused : ℕ → R} {last : ℕ} {Goes : R → Type 0} {A B C D : Type 0} {r : R} →
+    Verdict refused last Goes A B C D r → Goes r ⊎ ((n : ℕ) × (r ≡ refused n) × Listed last n)
+listed (out a) = inr (21, refl, inl refl)
+listed (misplaced a b) = inr (23, refl, inr (inl refl))
+listed (damaged a b c) = inr (24, refl, inr (inr (inl refl)))
+listed {last = last} (at-last a b c d) = inr (last, refl, inr (inr (inr refl)))
+listed (started a b c d h) = inl h
+
+-- which is not 0, and none of a stop's
+pub listed-above : {last n : ℕ} → 33 < last → Listed last n → n ≡ 0 → ⊥
+listed-above l (inl h) e = omega arith
+listed-above l (inr (inl h)) e = omega arith
+listed-above l (inr (inr (inl h))) e = omega arith
+listed-above l (inr (inr (inr h))) e = omega arith
+
+pub listed-apart : {last n m : ℕ} → 33 < last → Listed last n → (31 ≤ m) × (m ≤ 33) → n ≡ m → ⊥
+listed-apart l (inl h) s e = omega arith
+listed-apart l (inr (inl h)) s e = omega arith
+listed-apart l (inr (inr (inl h))) s e = omega arith
+listed-apart l (inr (inr (inr h))) s e = omega (arith, s .1)
+
+-- of a run or a carry-on
+abbrev pub RunVerdict : List ℕ → List ℕ → Type 0 → Type 0 → Type 0 → Type 0 → Ran → Type 0
+RunVerdict w j = Verdict (λ (n : ℕ). ran w j (Refused n)) 40 Ended
+
+-- by its own reasons
 abbrev pub Judged : From → List ℕ → List ℕ → ℤ → ℤ → ℤ → ℕ → ℕ → Ran → Type 0
 Judged from w j base f x used fuel =
-    Verdict w j (OutOfTable w base used) (Misplaced used f ⊎ Misplaced used x) (Damaged w base used ⊎ JobsDamaged from used j)
+    RunVerdict w j (OutOfTable w base used) (Misplaced used f ⊎ Misplaced used x) (Damaged w base used ⊎ JobsDamaged from used j)
     (TooMany from fuel)
 
 module _ (w j : List ℕ) (b : ℕ) (f x : ℤ) (used fuel : ℕ) where
@@ -138,7 +164,7 @@ module _ (w j : List ℕ) (b : ℕ) (f x : ℤ) (used fuel : ℕ) where
         by-test (Comes-on waiting steps) (framesSound used j waiting)
         (λ h. by-test (Comes-on waiting steps) (ltb maxSteps (steps + fuel))
         (λ l. rw (whole 40)
-        (too-many not-out well (⊎-elim sound-slots (λ z. z (exactly .0 h))) (ltb-true maxSteps (steps + fuel) l)))
+        (at-last not-out well (⊎-elim sound-slots (λ z. z (exactly .0 h))) (ltb-true maxSteps (steps + fuel) l)))
         (λ l. started not-out well (⊎-elim sound-slots (λ z. z (exactly .0 h)))
         (λ g. omega (arith, ltb-false maxSteps (steps + fuel) l))
         (behind-ended (take b w) (drive fuel steps (drop b w) j first) (drive-ended fuel steps (drop b w) j first))))

@@ -13,8 +13,10 @@ use Rattle.soundness.specs.Meaning as checks
 use Rattle.soundness.specs.ExportCalls.{OnlyName, IndexTells, OnlyIndex}
 use Rattle.soundness.specs.Skipped.{SkippedUnread}
 use Rattle.soundness.specs.NodesMeaning.{HashedBytes, LongestReached}
+use Rattle.plain.specs.Run.{plainRun}
 use Rattle.loader.specs.Answer.{Numbers}
 use Rattle.guarantees.specs.Run.{Calls, NumberTells, OneAnswer}
+use Rattle.guarantees.specs.Plain.{OnlyPlain, PlainNumberTells, PlainOneAnswer}
 use Rattle.guarantees.specs.Onward.{NoFuelKeeps}
 use Rattle.guarantees.specs.OnlyRun.{OnlyRun, SameAll}
 use Rattle.guarantees.specs.Session.{Request, Bring, Table, SessionBlind}
@@ -40,9 +42,13 @@ pub record Closing : Type 0 where
   -- of a run and of a carry-on, but for which of two slots with one tree is named: of single calls, and of all lists
   pub only-run : OnlyRun
   pub only-runs : OnlyRuns
+  -- of a plain run
+  pub only-plain : OnlyPlain
   -- the number tells which case of an answer it is, and the numbers the whole answer
   pub run-tells : NumberTells
   pub one-answer : OneAnswer
+  pub plain-tells : PlainNumberTells plainRun
+  pub plain-one-answer : PlainOneAnswer
   pub index-tells : IndexTells
   -- what the demands say to exist is there once: the order of placing, the store that a load starts with, the jobs' frames
   pub one-order : OneOrder
@@ -70,6 +76,10 @@ pub record Agreeing : Type 0 where
   pub done-exactly : machine.DoneExactly
   pub steps-spent : machine.StepsSpent
   pub stops-exactly : machine.StopsExactly
+  -- what the seven rules give has a cost, just one, and the machine is done just where there is enough for it
+  pub costs-exactly : machine.CostsExactly
+  pub one-cost : machine.OneCost
+  pub done-by-cost : machine.DoneByCost
   -- whatever the receiver writes before the base meanwhile, the runs go the same
   pub session-blind : SessionBlind
   -- a carry-on with no fuel changes nothing

@@ -1,6 +1,6 @@
 -- The studio's three demands, a field or a line for each of their sentences. That every public call ends, and checks
 -- everything itself, is said by the calls' contracts: they are equations for all inputs, with no `requires`. A run is one from scratch,
--- by the run call, or one from a stop, by the carry-on call.
+-- by the run call, or one from a stop, by the carry-on call. A plain run is one by the plain engine's call.
 use Prim.Native.Nat.{ℕ}
 use mathlib.Core.Path.{_≡_}
 use mathlib.Core.Bool.{true}
@@ -16,6 +16,10 @@ use Rattle.engine.specs.declared.RunAnswer.{RunAnswer}
 use Rattle.engine.specs.Run.{ran, runFrom}
 use Rattle.engine.specs.declared.From.{From}
 use Rattle.engine.specs.Answer as engine
+use Rattle.plain.specs.declared.PlainAnswer.{PlainAnswer}
+use Rattle.plain.specs.Answer as plain
+use Rattle.plain.specs.Run.{played, plainRun}
+use Rattle.plain.specs.Meaning.{PlainIsRun}
 use Rattle.bundle.specs.Checks.{refusal}
 use Rattle.bundle.specs.Exports.{namePart}
 use Rattle.soundness.specs.Meaning as checks
@@ -28,6 +32,7 @@ use Rattle.loader.specs.declared.LoadAnswer.{LoadAnswer}
 use Rattle.loader.specs.Answer.{Numbers, numbers}
 use Rattle.loader.specs.Load.{loaded, load}
 use Rattle.guarantees.specs.Run.{Calls, RunSimulates, started, RefusalKeeps, RefusedExactly, JobsSound, BaseBlind, DoneStays}
+use Rattle.guarantees.specs.Plain.{PlainRefusedExactly, PlainRefusalKeeps, PlainBlind, PlainDoneExactly}
 use Rattle.guarantees.specs.Onward.{FuelInParts, StopsCarryOn}
 use Rattle.guarantees.specs.Session.{Request, Bring, AllAlike}
 use Rattle.guarantees.specs.Load.{AcceptedExactly, LoadNumberExactly, LoadRefusalKeeps, Loads, LoadLeaves, LoadBlind}
@@ -43,6 +48,8 @@ pub record Demand1 : Type 0 where
   pub load-kept : LoadRefusalKeeps load
   pub run-refused : RefusedExactly runFrom
   pub run-kept : RefusalKeeps
+  pub plain-refused : PlainRefusedExactly plainRun
+  pub plain-kept : PlainRefusalKeeps
   -- a call asked for a name answers the part of the file that it is, (0, 0) by 1 to 14 or where there is no such index
   pub name-by-index : NameByIndex namePart
   pub name-refused : NameRefused namePart
@@ -56,11 +63,15 @@ pub record Demand1 : Type 0 where
   -- nothing before our part of the table is written or looked at
   pub load-blind : LoadBlind
   pub run-blind : BaseBlind
-  -- slot zero is the leaf after every accepted load and every run that was let start
+  pub plain-blind : PlainBlind
+  -- slot zero is the leaf after every accepted load and every run or plain run that was let start
   pub load-zero : (file words words′ : List ℕ) (base : ℤ) (exports exports′ : List ℕ) (a : LoadAnswer) →
       load file words base exports ≡ loaded words′ exports′ a → numbers a .number ≡ 0 → ZeroIsLeaf base words′
   pub run-zero : (from : From) (words words′ jobs jobs′ : List ℕ) (base f x : ℤ) (used fuel : ℕ) (a : RunAnswer) →
-      runFrom from words base f x used fuel jobs ≡ ran words′ jobs′ a → started (engine.numbers a) ≡ true →
+      runFrom from words base f x used fuel jobs ≡ ran words′ jobs′ a → started (engine.numbers a .number) ≡ true →
+      ZeroIsLeaf base words′
+  pub plain-zero : (words words′ : List ℕ) (base f x : ℤ) (used fuel places : ℕ) (a : PlainAnswer) →
+      plainRun words base f x used fuel places ≡ played words′ a → started (plain.numbers a .number) ≡ true →
       ZeroIsLeaf base words′
   -- the room of the two tables, and where a job stands
   pub room-is : RoomIs
@@ -101,3 +112,6 @@ pub record Demand3 : Type 0 where
   -- fuel in parts is one run with the sum; a stop may be carried on, but for too many steps
   pub fuel-in-parts : FuelInParts
   pub stops-carry-on : StopsCarryOn
+  -- for fuel and job room up to 1,000 a plain run is the run's twin, and is done just where the seven rules say so
+  pub plain-is-run : PlainIsRun plainRun
+  pub plain-done : PlainDoneExactly

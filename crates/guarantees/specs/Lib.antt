@@ -1,5 +1,6 @@
 pub mod Agrees
 pub mod Run
+pub mod Plain
 pub mod Onward
 pub mod Session
 pub mod OnlyRun

@@ -47,7 +47,7 @@ FuelInParts =
 abbrev pub MayGoOn : ℤ → ℕ → Ran → Type 0
 MayGoOn base more (ran w j a) =
     let r = carried runFrom base more (ran w j a) in
-    (31 ≤ numbers a .number) × (numbers a .number ≤ 33) → (started (numbersOf r) ≡ true) ⊎ RefusedWith 40 w j r
+    (31 ≤ numbers a .number) × (numbers a .number ≤ 33) → (started (numbersOf r .number) ≡ true) ⊎ RefusedWith 40 w j r
 
 abbrev pub StopsCarryOn : Type 0
 StopsCarryOn =
@@ -57,5 +57,5 @@ StopsCarryOn =
 abbrev pub NoFuelKeeps : Type 0
 NoFuelKeeps =
     (waiting steps : ℕ) (w v j k : List ℕ) (base f x : ℤ) (used : ℕ) (a : RunAnswer)
-    → runFrom (Stop waiting steps) w base f x used 0 j ≡ ran v k a → started (numbers a) ≡ true
+    → runFrom (Stop waiting steps) w base f x used 0 j ≡ ran v k a → started (numbers a .number) ≡ true
     → (a ≡ Stopped 31 f x steps used waiting) × (v ≡ w) × (k ≡ j)

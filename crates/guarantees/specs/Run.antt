@@ -76,28 +76,29 @@ RunSimulates calls = (from : From) → SimulatesFrom from (calls from)
 abbrev pub refusal : ℕ → Numbers
 refusal n = record { number = n; slot = pos 0; f = pos 0; x = pos 0; steps = 0; used = 0; waiting = 0 }
 
--- a run that was let start is answered 0, or with a stop: 31, 32 or 33
-abbrev pub started : Numbers → Bool
-started a = eqb (a .number) 0 || (leb 31 (a .number) && leb (a .number) 33)
+-- the number of a run that was let start: 0, or a stop's, 31, 32 or 33
+abbrev pub started : ℕ → Bool
+started n = eqb n 0 || (leb 31 n && leb n 33)
 
 -- a call on these two tables is refused with this number: it answers that, and changes no word
 abbrev pub RefusedWith : ℕ → List ℕ → List ℕ → Ran → Type 0
 RefusedWith n w j (ran v k a) = (numbers a ≡ refusal n) × (v ≡ w) × (k ≡ j)
 
--- the numbers of the list that a run may be refused with; 40 is a carry-on's alone, as RefusedExactly says
-abbrev pub Listed : ℕ → Type 0
-Listed n = (n ≡ 21) ⊎ ((n ≡ 23) ⊎ ((n ≡ 24) ⊎ (n ≡ 40)))
+-- the numbers of the list that a run of some kind may be refused with, the last one its own
+abbrev pub Listed : ℕ → ℕ → Type 0
+Listed last n = (n ≡ 21) ⊎ ((n ≡ 23) ⊎ ((n ≡ 24) ⊎ (n ≡ last)))
 
--- A run that was not let start has a number of the list, with every other number 0, and changes nothing.
+-- A run that was not let start has a number of the list, with every other number 0, and changes nothing; 40 is a carry-on's alone, as
+-- RefusedExactly says.
 abbrev pub RefusalKeeps : Type 0
 RefusalKeeps =
     (from : From) (w v j k : List ℕ) (base f x : ℤ) (used fuel : ℕ) (a : RunAnswer)
-    → runFrom from w base f x used fuel j ≡ ran v k a → started (numbers a) ≡ false
-    → (n : ℕ) × RefusedWith n w j (ran v k a) × Listed n
+    → runFrom from w base f x used fuel j ≡ ran v k a → started (numbers a .number) ≡ false
+    → (n : ℕ) × RefusedWith n w j (ran v k a) × Listed 40 n
 
 -- The number tells which case of the answer it is: a refusal has 21, 23, 24 or 40, a stop 31, 32 or 33.
 abbrev pub Tells : RunAnswer → Type 0
-Tells (Refused n) = Listed n
+Tells (Refused n) = Listed 40 n
 Tells (Done slot steps used) = Unit {0}
 Tells (Stopped n f x steps used waiting) = (31 ≤ n) × (n ≤ 33)
 
@@ -132,19 +133,23 @@ abbrev pub JobsDamaged : From → ℕ → List ℕ → Type 0
 JobsDamaged Scratch used j = ⊥
 JobsDamaged (Stop waiting steps) used j = SoundJobs used j waiting → ⊥
 
+-- the lowest number that applies is answered: 21 for A, 23 for B, 24 for C, and the last one for D
+abbrev pub InOrder : (ℕ → Type 0) → Type 0 → Type 0 → Type 0 → ℕ → Type 0 → Type 0
+InOrder Answered A B C last D =
+    (Answered 21 ↔ A)
+    × (Answered 23 ↔ ((A → ⊥) × B))
+    × (Answered 24 ↔ ((A → ⊥) × (B → ⊥) × C))
+    × (Answered last ↔ ((A → ⊥) × (B → ⊥) × (C → ⊥) × D))
+
 -- A run is refused exactly when one of these holds, with the lowest number that applies.
 abbrev pub RefusedFrom : From → RunCall → Type 0
 RefusedFrom from call =
     (w j : List ℕ) (base f x : ℤ) (used fuel : ℕ)
-    → (RefusedWith 21 w j (call w base f x used fuel j) ↔ OutOfTable w base used)
-    × (RefusedWith 23 w j (call w base f x used fuel j)
-    ↔ ((OutOfTable w base used → ⊥) × (Misplaced used f ⊎ Misplaced used x)))
-    × (RefusedWith 24 w j (call w base f x used fuel j)
-    ↔ ((OutOfTable w base used → ⊥) × (Misplaced used f ⊎ Misplaced used x → ⊥)
-    × (Damaged w base used ⊎ JobsDamaged from used j)))
-    × (RefusedWith 40 w j (call w base f x used fuel j)
-    ↔ ((OutOfTable w base used → ⊥) × (Misplaced used f ⊎ Misplaced used x → ⊥)
-    × (Damaged w base used ⊎ JobsDamaged from used j → ⊥) × TooMany from fuel))
+    → InOrder (λ n. RefusedWith n w j (call w base f x used fuel j))
+    (OutOfTable w base used)
+    (Misplaced used f ⊎ Misplaced used x)
+    (Damaged w base used ⊎ JobsDamaged from used j)
+    40 (TooMany from fuel)
 
 abbrev pub RefusedExactly : Calls → Type 0
 RefusedExactly calls = (from : From) → RefusedFrom from (calls from)
@@ -155,7 +160,7 @@ RefusedExactly calls = (from : From) → RefusedFrom from (calls from)
 abbrev pub JobsSound : Type 0
 JobsSound =
     (from : From) (w v j k : List ℕ) (base f x : ℤ) (used fuel : ℕ) (a : RunAnswer)
-    → runFrom from w base f x used fuel j ≡ ran v k a → started (numbers a) ≡ true
+    → runFrom from w base f x used fuel j ≡ ran v k a → started (numbers a .number) ≡ true
     → SoundJobs (numbers a .used) k (numbers a .waiting)
 
 -- No word before the base is looked at or changed: wherever our part stands, and whatever is before it, the answer, our part and

@@ -131,13 +131,13 @@ answer calls b t (to-run c) = calls (c .from) (c .before ++ t .words) (pos b) (c
 
 abbrev pub tableAfter : ℕ → Table → Ran → Table
 tableAfter b t (ran w j a) =
-    record { words = drop b w; used = cond (started (numbers a)) (numbers a .used) (t .used) }
+    record { words = drop b w; used = cond (started (numbers a .number)) (numbers a .used) (t .used) }
 
 -- ---- both
 
 -- both refuse with one number, and nothing changes; or both answer, what they answer agrees, and the words before the base stay
 pub data Alike (t : Table) (c : Request) : Ran → Reply → Type 0 where
-  alike-refused : {a : RunAnswer} {n : ℕ} → numbers a ≡ refusal n → started (refusal n) ≡ false
+  alike-refused : {a : RunAnswer} {n : ℕ} → numbers a ≡ refusal n → started n ≡ false
       → Alike t c (ran (beforeOf c ++ t .words) (jobsOf c) a) (refused n)
   alike-answered : {w j : List ℕ} {a : RunAnswer} {o : Outcome}
       → Agrees (t .words) (t .used) (jobsOf c) w j (numbers a) o
