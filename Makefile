@@ -68,9 +68,12 @@ header: $(ARCHIVE)
 example: $(ARCHIVE)
 	sh tests/example.sh $(ARCHIVE) $(OUT)/example
 
-# The host plays the sample bundle as expected.
-played: $(OUT)/play
-	sh tests/play.sh $(OUT)/play
+# The host plays the sample bundle as expected, and tells where a wrong plain engine differs.
+$(OUT)/play-wrong: tests/host/play_wrong.c host/play.c $(HEADERS) $(ARCHIVE)
+	$(CC) $(CFLAGS) $< $(ARCHIVE) -o $@
+
+played: $(OUT)/play $(OUT)/play-wrong
+	sh tests/play.sh $(OUT)/play $(OUT)/play-wrong
 
 # A reference that is wrong in one way is found out; each way is tried.
 faults: $(OUT)/compare-faults

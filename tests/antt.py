@@ -20,6 +20,7 @@ CALLS = {
     "bundle/Exports": ["namePart", "nameCall", "indexCall"],
     "loader/Load": ["load"],
     "engine/Run": ["runFrom"],
+    "plain/Run": ["plainRun"],
 }
 
 

@@ -11,7 +11,7 @@
 #include <string.h>
 #include <unistd.h>
 
-enum { ARGUMENTS = 10, NUMBERS = 41, MOST_FILE = 98304, MOST_NAME = 2048, ANSWER_BYTES = 64 };
+enum { ARGUMENTS = 10, NUMBERS = 50, MOST_FILE = 98304, MOST_NAME = 2048, ANSWER_BYTES = 64 };
 
 /* ---- What is being done now, for reports */
 
@@ -214,7 +214,7 @@ static void compare_tables(const struct outcome *outcome, const char *table, con
 {
     const uint32_t *archive = lent->words[ARCHIVE], *reference = lent->words[REFERENCE];
 
-    if (memcmp(archive + lent->closed, reference + lent->closed, (lent->length - lent->closed) * sizeof *archive) == 0)
+    if (memcmp(archive + lent->closed, reference + lent->closed, open_bytes(lent)) == 0)
         return;
     for (size_t i = lent->closed; i < lent->length; i++)
         if (archive[i] != reference[i])
@@ -223,7 +223,7 @@ static void compare_tables(const struct outcome *outcome, const char *table, con
 
 /* ---- How often each number was answered */
 
-enum counted { COUNT_CHECK, COUNT_LOAD, COUNT_INDEX, COUNT_RUN, COUNT_CARRY, COUNTED };
+enum counted { COUNT_CHECK, COUNT_LOAD, COUNT_INDEX, COUNT_RUN, COUNT_CARRY, COUNT_PLAIN, COUNTED };
 
 static uint64_t tally[COUNTED][NUMBERS];
 static uint64_t names_found, names_empty;
@@ -252,9 +252,9 @@ static void count_run(const struct outcome *outcome)
 
 void print_numbers(void)
 {
-    printf("number      check       load      index        run      carry\n");
+    printf("number      check       load      index        run      carry      plain\n");
     for (unsigned i = 0; i < NUMBERS; i++) {
-        if ((i > 25 && i < 31) || (i > 33 && i < 40))
+        if ((i > 25 && i < 31) || (i > 33 && i < 40) || (i > 40 && i < 49))
             continue;
         printf("%6u", i);
         for (unsigned counted = 0; counted < COUNTED; counted++)
@@ -308,28 +308,53 @@ static const uint8_t *lend_name(const uint8_t *name, size_t length)
     return lent;
 }
 
-void lend_table(struct lent *lent, enum table table, size_t length, size_t closed, struct dice *dice)
+/* Finds a place for the table of each side. */
+static void place_table(struct lent *lent, enum table table, enum fence_side where)
 {
-    size_t open = (length - closed) * sizeof(uint32_t);
-    enum fence_side where = some_side(dice);
+    size_t open = open_bytes(lent);
 
     for (unsigned side = 0; side < SIDES; side++) {
         struct fence *fence = &short_fences[table][side];
         if (open > fence_page())
             fence = &long_fences[table][side];
-        lent->words[side] = closed > 0 ? fence_lend_closed(fence, closed * sizeof(uint32_t), open)
-                                       : fence_lend(fence, open, where);
+        lent->words[side] = lent->closed > 0 ? fence_lend_closed(fence, lent->closed * sizeof(uint32_t), open)
+                                             : fence_lend(fence, open, where);
     }
+}
+
+void lend_table(struct lent *lent, enum table table, size_t length, size_t closed, struct dice *dice)
+{
     lent->length = length;
     lent->closed = closed;
-    dice_fill(dice, lent->words[ARCHIVE] + closed, open);
-    memcpy(lent->words[REFERENCE] + closed, lent->words[ARCHIVE] + closed, open);
+    place_table(lent, table, some_side(dice));
+    dice_fill(dice, lent->words[ARCHIVE] + closed, open_bytes(lent));
+    memcpy(lent->words[REFERENCE] + closed, lent->words[ARCHIVE] + closed, open_bytes(lent));
+}
+
+/* Sides change every other call: a run makes two calls. */
+static enum fence_side next_side(void)
+{
+    return now.made % 4 < 2 ? FENCE_RIGHT : FENCE_LEFT;
+}
+
+static void copy_table(struct lent *copy, const struct lent *lent)
+{
+    copy->length = lent->length;
+    copy->closed = lent->closed;
+    place_table(copy, TABLE_COPY, next_side());
+    for (unsigned side = 0; side < SIDES; side++)
+        memcpy(copy->words[side] + copy->closed, lent->words[side] + lent->closed, open_bytes(lent));
+}
+
+static int same_words(const struct lent *one, const struct lent *other)
+{
+    return memcmp(one->words[ARCHIVE] + one->closed, other->words[ARCHIVE] + other->closed, open_bytes(one)) == 0;
 }
 
 /* An answer at one of the fences, with other words in it before each call. */
 static void *lend_answer(enum side side, size_t bytes)
 {
-    void *answer = fence_lend(&answer_fences[side], bytes, now.made % 2 == 0 ? FENCE_RIGHT : FENCE_LEFT);
+    void *answer = fence_lend(&answer_fences[side], bytes, next_side());
 
     memset(answer, (int)(0xa5 ^ (now.made & 0xff)), bytes);
     return answer;
@@ -391,7 +416,7 @@ uint32_t both_load(struct lent *words, int32_t base, struct lent *exports, uint3
     return count_number(COUNT_LOAD, &outcome);
 }
 
-static void run_arguments(const struct lent *words, const struct run *run, const struct lent *jobs)
+static void run_arguments(const struct lent *words, const struct run *run)
 {
     argument("words_len", (int64_t)words->length);
     argument("closed", (int64_t)words->closed);
@@ -400,7 +425,6 @@ static void run_arguments(const struct lent *words, const struct run *run, const
     argument("x", run->x);
     argument("used", run->used);
     argument("fuel", run->fuel);
-    argument("jobs_len", (int64_t)jobs->length);
 }
 
 static void compare_run(const struct outcome *outcome, const struct lent *words, const struct lent *jobs,
@@ -412,14 +436,73 @@ static void compare_run(const struct outcome *outcome, const struct lent *words,
     give_words(answer, outcome);
 }
 
+uint32_t both_plain_run(struct lent *words, const struct run *run, uint32_t job_room, uint32_t answer[4])
+{
+    static uint32_t (*const runs[SIDES])(uint32_t *, size_t, int32_t, int32_t, int32_t, uint32_t, uint32_t, uint32_t,
+                                         uint32_t *) = {arboricx_plain_run, reference_plain_run};
+    struct outcome outcome;
+
+    begin_call("plain_run");
+    run_arguments(words, run);
+    argument("job_room", job_room);
+    for (unsigned side = 0; side < SIDES; side++) {
+        uint32_t *lent = lend_answer(side, ARBORICX_PLAIN_ANSWER * sizeof *lent);
+        on_side(side);
+        uint32_t number = runs[side](words->words[side], words->length, run->base, run->f, run->x, run->used, run->fuel,
+                                     job_room, lent);
+        take_words(&outcome, side, number, lent, ARBORICX_PLAIN_ANSWER);
+    }
+    compare_outcome(&outcome);
+    compare_tables(&outcome, "word", words);
+    give_words(answer, &outcome);
+    return count_number(COUNT_PLAIN, &outcome);
+}
+
+/* What the plain engine came to on a copy of the words. */
+struct beside {
+    struct lent words;
+    uint32_t job_room, answer[ARBORICX_PLAIN_ANSWER];
+};
+
+static void play_beside(struct beside *beside, const struct lent *words, const struct run *run, const struct lent *jobs)
+{
+    size_t job_room = jobs->length / ARBORICX_JOB_WORDS;
+
+    beside->job_room = job_room < ARBORICX_MAX_JOBS ? (uint32_t)job_room : ARBORICX_MAX_JOBS;
+    copy_table(&beside->words, words);
+    both_plain_run(&beside->words, run, beside->job_room, beside->answer);
+    if (beside->answer[ARBORICX_PLAIN_USED] == 0)
+        expect("words stay when the plain engine refuses", same_words(&beside->words, words), 1);
+}
+
+/* The run has been made: unless it asks too much of the plain engine, the two engines come to the same. */
+static void compare_engines(const struct beside *beside, const struct lent *words, const struct run *run,
+                            const uint32_t answer[6])
+{
+    int deep = run->fuel > ARBORICX_MAX_PLAIN || beside->job_room > ARBORICX_MAX_PLAIN;
+    uint32_t number = answer[ARBORICX_RUN_NUMBER];
+    uint32_t wanted[ARBORICX_PLAIN_ANSWER] = {number, number == ARBORICX_OK ? answer[ARBORICX_RUN_SLOT] : 0,
+                                              answer[ARBORICX_RUN_STEPS], answer[ARBORICX_RUN_USED]};
+
+    if (deep && answer[ARBORICX_RUN_USED] > 0) /* used 0: refused */
+        memcpy(wanted, (uint32_t[ARBORICX_PLAIN_ANSWER]){ARBORICX_TOO_DEEP}, sizeof wanted);
+    for (unsigned i = 0; i < ARBORICX_PLAIN_ANSWER; i++)
+        expect("answer of the plain engine beside the run's", beside->answer[i], wanted[i]);
+    if (wanted[ARBORICX_PLAIN_NUMBER] != ARBORICX_TOO_DEEP)
+        expect("words of the plain engine beside the run's", same_words(&beside->words, words), 1);
+}
+
 uint32_t both_run(struct lent *words, const struct run *run, struct lent *jobs, uint32_t answer[6])
 {
     static uint32_t (*const runs[SIDES])(uint32_t *, size_t, int32_t, int32_t, int32_t, uint32_t, uint32_t, uint32_t *,
                                          size_t, uint32_t *) = {arboricx_run, reference_run};
     struct outcome outcome;
+    struct beside beside;
 
+    play_beside(&beside, words, run, jobs);
     begin_call("run");
-    run_arguments(words, run, jobs);
+    run_arguments(words, run);
+    argument("jobs_len", (int64_t)jobs->length);
     for (unsigned side = 0; side < SIDES; side++) {
         uint32_t *lent = lend_answer(side, ARBORICX_RUN_ANSWER * sizeof *lent);
         on_side(side);
@@ -428,6 +511,7 @@ uint32_t both_run(struct lent *words, const struct run *run, struct lent *jobs, 
         take_words(&outcome, side, number, lent, ARBORICX_RUN_ANSWER);
     }
     compare_run(&outcome, words, jobs, answer);
+    compare_engines(&beside, words, run, answer);
     count_run(&outcome);
     return count_number(COUNT_RUN, &outcome);
 }
@@ -441,7 +525,8 @@ uint32_t both_carry_on(struct lent *words, const struct carry *carry, struct len
     struct outcome outcome;
 
     begin_call("carry_on");
-    run_arguments(words, run, jobs);
+    run_arguments(words, run);
+    argument("jobs_len", (int64_t)jobs->length);
     argument("waiting", carry->waiting);
     argument("steps", carry->steps);
     for (unsigned side = 0; side < SIDES; side++) {
@@ -539,7 +624,7 @@ uint64_t calls_made(void)
 
 void calls_prepare(const char *program)
 {
-    static const size_t most[TABLES] = {MOST_WORDS, MOST_EXPORTS, MOST_JOBS, MOST_JOBS};
+    static const size_t most[TABLES] = {MOST_WORDS, MOST_EXPORTS, MOST_JOBS, MOST_JOBS, MOST_WORDS};
     size_t below_base = (size_t)INT32_MAX * sizeof(uint32_t); /* address space only: it is never opened */
 
     now.program = program;
@@ -548,7 +633,7 @@ void calls_prepare(const char *program)
     for (unsigned side = 0; side < SIDES; side++) {
         fence_make(&answer_fences[side], ANSWER_BYTES, 0);
         for (unsigned table = 0; table < TABLES; table++) {
-            size_t reserve = table == TABLE_WORDS ? below_base : 0;
+            size_t reserve = table == TABLE_WORDS || table == TABLE_COPY ? below_base : 0;
             fence_make(&short_fences[table][side], fence_page(), reserve);
             fence_make(&long_fences[table][side], most[table] * sizeof(uint32_t), reserve);
         }

@@ -18,7 +18,13 @@ struct lent {
     size_t length, closed;
 };
 
-enum table { TABLE_WORDS, TABLE_EXPORTS, TABLE_JOBS, TABLE_OTHER_JOBS, TABLES };
+/* The words that are not closed, in bytes. */
+static inline size_t open_bytes(const struct lent *lent)
+{
+    return (lent->length - lent->closed) * sizeof(uint32_t);
+}
+
+enum table { TABLE_WORDS, TABLE_EXPORTS, TABLE_JOBS, TABLE_OTHER_JOBS, TABLE_COPY, TABLES };
 
 /* How long the tables of each kind may be, in words that are not closed. */
 enum { MOST_WORDS = 140000, MOST_EXPORTS = 1024, MOST_JOBS = 200704 };
@@ -51,7 +57,10 @@ struct run {
     uint32_t used, fuel;
 };
 
+/* Also makes the plain run on a copy of the words: the two engines have to come to the same. */
 uint32_t both_run(struct lent *words, const struct run *run, struct lent *jobs, uint32_t answer[6]);
+
+uint32_t both_plain_run(struct lent *words, const struct run *run, uint32_t job_room, uint32_t answer[4]);
 
 /* Goes on with a stopped run: f, x, used, waiting and steps are the stop's. */
 struct carry {

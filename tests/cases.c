@@ -5,6 +5,7 @@
 #include "bundles.h"
 #include "calls.h"
 #include "reference.h"
+#include "trees.h"
 
 #include <stdio.h>
 #include <stdlib.h>
@@ -12,14 +13,6 @@
 #include <sys/mman.h>
 
 /* ---- The cases of the paper */
-
-/*
- * A tree is written as its nodes in order, each by how many children it has: L is "0", stem L is "10", fork(L, L) is
- * "200".
- */
-#define TREE_I "21100"
-#define TREE_D "2121100" TREE_I
-#define TREE_F "22000"
 
 struct paper_case {
     const char *f, *x;
@@ -46,51 +39,6 @@ static const struct paper_case paper_cases[] = {
     {TREE_D, TREE_D, 100, 100, 1, 33, 1, 0, 1, TREE_I, TREE_D},
     {TREE_D, TREE_D, 0, 100, 100, 31, 0, 0, 0, TREE_D, TREE_D},
     {"0", "0", 0, 0, 0, 31, 0, 0, 0, "0", "0"}};
-
-/* Trees are added children first, so that the text is read from its end. Equal trees may take several slots. */
-static uint32_t add_tree(uint32_t *slots, uint32_t *used, const char *text)
-{
-    uint32_t stack[64], depth = 0;
-
-    for (size_t at = strlen(text); at > 0; at--) {
-        uint32_t children = (uint32_t)(text[at - 1] - '0');
-        uint32_t slot = *used;
-        slots[2 * slot] = children > 0 ? stack[depth - 1] + 1 : 0;
-        slots[2 * slot + 1] = children > 1 ? stack[depth - 2] + 1 : 0;
-        if (children == 0)
-            slot = 0; /* slot 0 is the only leaf */
-        else
-            (*used)++;
-        depth = depth - children + 1;
-        stack[depth - 1] = slot;
-    }
-    return stack[0];
-}
-
-static void tree_text(const uint32_t *slots, uint32_t slot, char *text, size_t room)
-{
-    uint32_t stack[64], depth = 0;
-
-    stack[depth++] = slot;
-    while (depth > 0 && room > 1) {
-        uint32_t top = stack[--depth], first = slots[2 * top], second = slots[2 * top + 1];
-        *text++ = (char)('0' + (first > 0) + (second > 0));
-        room--;
-        if (second > 0)
-            stack[depth++] = second - 1;
-        if (first > 0)
-            stack[depth++] = first - 1;
-    }
-    *text = '\0';
-}
-
-static void expect_tree(const uint32_t *slots, uint32_t slot, const char *wanted)
-{
-    char text[64];
-
-    tree_text(slots, slot, text, sizeof text);
-    expect("a tree of the paper's cases", strcmp(text, wanted) == 0, 1);
-}
 
 static void check_paper_case(const struct paper_case *paper)
 {
@@ -579,6 +527,7 @@ static void check_vast_bytes(const struct bundle *bundle, uint8_t *map)
 static void check_vast_tables(const struct bundle *bundle, uint32_t *words, uint32_t *exports, int32_t base)
 {
     uint32_t fitting[2 * 64], slots[ARBORICX_MAX_EXPORTS], jobs[9], loaded[3], vastly[3], ran[6], again[6];
+    uint32_t plain[ARBORICX_PLAIN_ANSWER], vastly_plain[ARBORICX_PLAIN_ANSWER];
     size_t room = sizeof fitting / sizeof fitting[0];
 
     memset(fitting, 0, sizeof fitting);
@@ -592,6 +541,10 @@ static void check_vast_tables(const struct bundle *bundle, uint32_t *words, uint
         arboricx_carry_on(words, vast(1), base, (int32_t)again[ARBORICX_RUN_F], (int32_t)again[ARBORICX_RUN_X],
                           again[ARBORICX_RUN_USED], again[ARBORICX_RUN_JOBS], 3, 17, jobs, 9, again);
     expect("run in vast tables", memcmp(ran, again, sizeof ran) == 0, 1);
+    reference_plain_run(fitting, room, 0, (int32_t)slots[0], (int32_t)slots[0], ran[ARBORICX_RUN_USED], 4, 3, plain);
+    arboricx_plain_run(words, vast(1), base, (int32_t)slots[0], (int32_t)slots[0], again[ARBORICX_RUN_USED], 4, 3,
+                       vastly_plain);
+    expect("plain run in vast tables", memcmp(plain, vastly_plain, sizeof plain) == 0, 1);
     expect("words of vast tables", memcmp(fitting, words + base, sizeof fitting) == 0, 1);
     exports[0] = 9;
     arboricx_carry_on(words, vast(1), base, 0, 0, vastly[1], 0, 0, 20, exports, vast(0), again);

@@ -1,5 +1,5 @@
 /*
- * Holds the archive against the reference, on generated bundles, tables, runs and carry-ons.
+ * Holds the archive against the reference, on generated bundles, tables and runs of all kinds.
  *
  *     compare [--seed S] [--count N] [--first I] [--break K] [--zeros 1]
  *
@@ -361,7 +361,7 @@ static uint32_t some_fuel(const struct story *story, const struct start *start, 
     case 6:
         return dice_from(dice, 2, 60);
     case 7:
-        return dice_from(dice, 100, 5000);
+        return dice_once_in(dice, 4) ? dice_from(dice, 999, 1002) : dice_from(dice, 100, 5000);
     case 8:
     case 9:
         return fuel_without_limit(story, start, dice);
@@ -380,8 +380,8 @@ static size_t some_jobs_length(struct dice *dice)
         return dice_below(dice, 14);
     case 3:
         return 1024;
-    case 4:
-        return dice_from(dice, 300, 3000);
+    case 4: /* or 999 to 1,002 jobs: the limit of a plain run is among them */
+        return dice_once_in(dice, 4) ? dice_from(dice, 2997, 3008) : dice_from(dice, 300, 3000);
     default:
         return dice_below(dice, 120);
     }
@@ -656,6 +656,41 @@ static void play_cut(struct story *story, struct dice *dice, size_t jobs_len, ui
     remember(story, player, answer, dice);
 }
 
+/* ---- Plain runs */
+
+/* Fuel or a job room: few, up to the limit, or at an edge. */
+static uint32_t some_allowance(struct dice *dice)
+{
+    static const uint32_t edges[] = {0,    1,    999,   1000,  1000,       1000,      1001,
+                                     1001, 1002, 65535, 65536, 0x80000000, 0xffffffff};
+
+    switch (dice_below(dice, 6)) {
+    case 0:
+        return edges[dice_below(dice, sizeof edges / sizeof edges[0])];
+    case 1:
+    case 2:
+        return dice_from(dice, 12, 1000);
+    default:
+        return dice_below(dice, 12);
+    }
+}
+
+/* One plain run on the table as the last call left it; the next call goes on with what it leaves. */
+static void play_plain(struct story *story, struct dice *dice)
+{
+    struct run run = {some_base(story, dice), some_slot(story, dice), some_slot(story, dice), some_used(story, dice),
+                      some_allowance(dice)};
+    uint32_t answer[4];
+
+    both_plain_run(&story->words, &run, some_allowance(dice), answer);
+    if (answer[3] == 0) /* refused */
+        return;
+    story->used = answer[3];
+    know(story, dice, answer[1]);
+}
+
+/* ---- Calls one after the other */
+
 static void play_calls(struct story *story, struct dice *dice, uint32_t calls)
 {
     for (uint32_t i = 0; i < calls; i++) {
@@ -664,10 +699,12 @@ static void play_calls(struct story *story, struct dice *dice, uint32_t calls)
         uint32_t kind = dice_below(dice, 32);
         if (damaged)
             old = damage_table(story, dice);
-        if (kind < 15)
+        if (kind < 13)
             play_run(story, dice, some_jobs_length(dice), 0);
-        else if (kind < 30)
+        else if (kind < 26)
             play_carry(story, dice, some_jobs_length(dice), 0);
+        else if (kind < 30)
+            play_plain(story, dice);
         else
             play_cut(story, dice, some_jobs_length(dice), dice_from(dice, 1, 40));
         if (damaged && !dice_once_in(dice, 8))
@@ -781,14 +818,16 @@ static void play_largest(struct dice *dice)
         know(&story, dice, add_doubled(&story, story.room - dice_below(dice, 3)));
     else
         know(&story, dice, add_tower(&story, dice_below(dice, 60)));
-    for (uint32_t i = 0; i < 6; i++) {
+    for (uint32_t i = 0; i < 8; i++) {
         uint32_t fuel = dice_once_in(dice, 2) ? dice_from(dice, 1, 60000) : 3000000;
-        if (i % 3 == 0)
+        if (i % 4 == 0)
             play_run(&story, dice, jobs_len, fuel);
-        else if (i % 3 == 1)
+        else if (i % 4 == 1)
             play_carry(&story, dice, jobs_len, fuel);
-        else
+        else if (i % 4 == 2)
             play_cut(&story, dice, jobs_len, fuel);
+        else
+            play_plain(&story, dice);
     }
 }
 
@@ -883,6 +922,7 @@ int main(int count, char **arguments)
     check_published_digests();
     check_paper_cases();
     check_carry_cases();
+    check_plain_cases();
     check_vast_lengths();
     if (options.zeros)
         check_gigabyte();

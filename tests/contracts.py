@@ -1,8 +1,8 @@
 """What the contracts of the public calls say, and whether they do: what tests/guarantees.py and tests/believe.py know of the sources.
 
 A public call has no `requires`, and its contract is an equation with its definition: the definition gets every argument of the function, once
-and in order, and every lent table at the exit is spoken of. The names in it come from where they are declared, under their own names. README.md's
-table of calls lists just these.
+and in order, and every lent table at the exit is spoken of. The names in it come from where they are declared, under their own names. An answer's
+numbers are read from its fields by their names. README.md's table of calls lists just these.
 """
 
 import functools
@@ -17,6 +17,7 @@ PUBLIC = {
     "engine::run_from": "ran LEFT ≡ runFrom GIVEN",
     "engine::run": "ran LEFT ≡ runFrom Scratch GIVEN",
     "engine::carry_on": "ran LEFT ≡ runFrom (Stop waiting steps) GIVEN",
+    "plain::run": "played LEFT ≡ plainRun GIVEN",
     "bundle::check": "LEFT ≡ refusal GIVEN",
     "bundle::exports::name_part": "LEFT ≡ namePart GIVEN",
     "bundle::exports::export_name": "now LEFT ≡ nameCall GIVEN",
@@ -30,6 +31,7 @@ FOR_C = {
     "arboricx::arboricx_load": "left LEFT ≡ afterLoad (load GIVEN)",
     "arboricx::arboricx_run": "left LEFT ≡ afterRun (runFrom Scratch GIVEN)",
     "arboricx::arboricx_carry_on": "left LEFT ≡ afterRun (runFrom (Stop waiting steps) GIVEN)",
+    "arboricx::arboricx_plain_run": "leftOne LEFT ≡ afterPlain (plainRun GIVEN)",
     "arboricx::arboricx_export_index": "told LEFT ≡ afterIndex (indexCall GIVEN)",
     "arboricx::arboricx_export_name": "LEFT ≡ partWords (namePart GIVEN)",
     "arboricx::arboricx_sha256": "LEFT ≡ sha256 GIVEN",
@@ -45,15 +47,23 @@ SOURCES = [
     ("loader/Load", ["loaded"]),
     ("engine/Run", ["ran"]),
     ("engine/declared.From.the-variants", ["Scratch", "Stop"]),
+    ("plain/Run", ["played"]),
     ("listing/Listing", ["listing"]),
     ("sha256_block/Fips180", ["sha256"]),
     ("arboricx/Answers", ["partWords"]),
-    ("arboricx/Calls", ["left", "told", "afterLoad", "afterRun", "afterIndex"]),
+    ("arboricx/Calls", ["left", "leftOne", "told", "afterLoad", "afterRun", "afterPlain", "afterIndex"]),
     ("mathlib.Core.Path", ["_≡_"]),
     ("Prim.Native.Nat", ["_≤_"]),
     ("lib.ListN", ["length", "take", "drop"]),
 ]
 WHERE = {name: source for source, names in SOURCES for name in names}
+# the types of answers, and where a definition `numbers` gives the paper's numbers of each case
+ANSWERS = {
+    "loader::LoadAnswer": "loader/Answer",
+    "engine::RunAnswer": "engine/Answer",
+    "plain::PlainAnswer": "plain/Answer",
+    "bundle::exports::IndexAnswer": "bundle/Exports",
+}
 # the start of an item of a source file
 ITEM = re.compile(r'^( *)(?:pub(?:\(crate\))? )?(?:extern "C" )?(fn|const|struct|enum|impl|mod|use|ghost)\b *(\w*)|^ *#\[', re.M)
 CONTRACT = re.compile(r"pub [^(]*\(([^()]*)\)\s*(?:-> ([^\n]*?)\s*)?ensures \{ λ r\. ⌜(.*?)⌝ \}\s*\{\n", re.S)
@@ -149,7 +159,7 @@ def equation(shape, parameters, returned):
     left = [f"(now ({x} .exit))" for x in lent] + ["r"] if returned else [f"now ({x} .exit)" for x in lent]
     named = [x for x in NAMED if re.search(rf"\b{x}\b", shape)]
     taken = [(x, kind) for x, kind in parameters if x not in named and (x not in WRITTEN or x not in lent)]
-    given = [f"(now ({x} .entry))" if kind.startswith("&") else x for x, kind in taken]
+    given = [f"(now ({x} .entry))" if kind.startswith("&") else f"«{x}»" if "_" in x else x for x, kind in taken]
     return shape.replace("LEFT", " ".join(left)).replace("GIVEN", " ".join(given))
 
 
@@ -179,6 +189,19 @@ def public_faults(sources, name):
     return found
 
 
+def answer_faults(sources, name, module):
+    """Whether `numbers` takes the fields of each case in the order in which the code declares them, under their names; `n` is a number."""
+    crate, module = module.split("/")
+    cases = dict(re.findall(r"^numbers \((\w+)(.*?)\) =", sources.texts[f"crates/{crate}/specs/{module}.antt"], re.M))
+    found = []
+    for case, fields in re.findall(r"^    (\w+)\s*(\(.*?\)|\{.*?\})?,$", re.sub(r" *//[^\n]*\n", "\n", sources.declared(name)), re.M | re.S):
+        named = re.findall(r"(\w+):", fields)
+        taken = cases.get(case, "").split()
+        if named and [{"n": "number"}.get(x, x) for x in taken] != named or not named and len(taken) != len(re.findall(r"\w+", fields)):
+            found.append(f"{sources.place(name)}: {name}: `numbers` of {crate}/{module} takes '{' '.join(taken)}' of {case}")
+    return found
+
+
 def readme_faults(text):
     """The calls of README.md's table are the public ones, but for that of the program. One with no path is where the one before it is."""
     calls, where = [], ""
@@ -197,6 +220,8 @@ def faults(sources, functions):
     for name in CONTRACTS | functions:
         found += [f"{sources.place(name)}: {name}: {wrong}" for wrong in public_faults(sources, name)]
     found += [f"{sources.place(name)}: {name}: is not exported for C" for name in FOR_C if name not in functions]
+    for name, module in ANSWERS.items():
+        found += answer_faults(sources, name, module)
     return found + readme_faults(sources.texts["README.md"])
 
 
@@ -229,6 +254,9 @@ def wrong(texts, sources):
         ("engine::carry_on", "(Stop waiting steps)", "(Stop waiting 0)"),
         ("engine::carry_on", "(Stop waiting steps)", "Scratch"),
         ("engine::run", "⌜ ran", "⌜ 0 ≡ 1 → ran"),
+        ("arboricx::arboricx_plain_run", "fuel «job_room»", "«job_room» fuel"),
+        ("plain::run", "f x used", "x f used"),
+        ("plain::run", "fuel places", "fuel fuel"),
         ("loader::load", " base (", " (pos 0) ("),
         ("loader::load", "(words .exit)", "(words .entry)"),
         ("loader::load", "(exports .entry)", "(exports .exit)"),
@@ -239,6 +267,12 @@ def wrong(texts, sources):
         ("listing::list", "(input .entry)", "(out .entry)"),
     ):
         yield f"'{new}' in the contract of {name}", other(name, old, new), f"{name}: its contract does not say"
+    for path, old, new, name in (
+        ("crates/plain/src/lib.rt", "{ number: u32, steps: u32, used: u32 }", "{ number: u32, used: u32, steps: u32 }", "plain::PlainAnswer"),
+        ("crates/engine/src/lib.rt", "        f: i32,\n        x: i32,\n        steps: u32,", "        x: i32,\n        f: i32,\n        steps: u32,", "engine::RunAnswer"),
+        ("crates/loader/specs/Answer.antt", "(Accepted nodes exports)", "(Accepted exports nodes)", "loader::LoadAnswer"),
+    ):
+        yield f"fields of {name} in another order", {path: texts[path].replace(old, new, 1)}, f"{name}: `numbers` of"
     yield "a contract of another form", other("engine::run", "λ r.", "λ s."), "engine::run: its contract is not understood"
     for name, old, new in (
         ("loader::load", "accept, load}", "accept as load}"),

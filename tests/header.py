@@ -22,6 +22,7 @@ SOURCE = "\n".join(path.read_text() for path in sorted((ROOT / "crates/arboricx/
 HEADER = (ROOT / "include/arboricx.h").read_text()
 SIZES = (ROOT / "crates/sizes/src/lib.rt").read_text()
 LIMITS = (ROOT / "crates/table/src/limits.rt").read_text()
+PLAIN = (ROOT / "crates/plain/src/lib.rt").read_text()
 
 C_TYPE = {"u8": "uint8_t", "u32": "uint32_t", "i32": "int32_t", "usize": "size_t"}
 
@@ -82,6 +83,7 @@ def limits():
         "ARBORICX_MAX_NAME": most["NAME"],
         "ARBORICX_MAX_SLOTS": cap["SLOTS"],
         "ARBORICX_MAX_JOBS": cap["FRAMES"],
+        "ARBORICX_MAX_PLAIN": int(re.search(r"const MOST: u32 = (\d+)", PLAIN)[1]),
     }
 
 
@@ -131,13 +133,16 @@ WRONG = [
     ("an unsigned base", "size_t words_len, int32_t base,\n                       uint32_t *exports", "size_t words_len, uint32_t base,\n                       uint32_t *exports"),
     ("a short length", "uint32_t fuel,\n                      uint32_t *jobs, size_t jobs_len", "uint32_t fuel,\n                      uint32_t *jobs, uint32_t jobs_len"),
     ("a file that is written", "arboricx_check(const uint8_t *file", "arboricx_check(uint8_t *file"),
-    ("f and x swapped", "int32_t f, int32_t x, uint32_t used, uint32_t fuel", "int32_t x, int32_t f, uint32_t used, uint32_t fuel"),
-    ("no fuel", "uint32_t used, uint32_t fuel,", "uint32_t used,"),
+    ("f and x swapped", "int32_t f, int32_t x, uint32_t used, uint32_t fuel,\n", "int32_t x, int32_t f, uint32_t used, uint32_t fuel,\n"),
+    ("no fuel", "uint32_t used, uint32_t fuel,\n", "uint32_t used,\n"),
     ("jobs and steps swapped", "uint32_t waiting, uint32_t steps,", "uint32_t steps, uint32_t waiting,"),
     ("no earlier steps", "uint32_t waiting, uint32_t steps, uint32_t fuel,", "uint32_t waiting, uint32_t fuel,"),
+    ("fuel and job room swapped", "uint32_t fuel, uint32_t job_room,", "uint32_t job_room, uint32_t fuel,"),
+    ("a wide job room", "uint32_t fuel, uint32_t job_room,", "uint32_t fuel, size_t job_room,"),
     ("a result", "void arboricx_export_name(", "uint32_t arboricx_export_name("),
     ("no result", "uint32_t arboricx_run(", "void arboricx_run("),
     ("a short answer", "    ARBORICX_RUN_JOBS, ", "    "),
+    ("a short plain answer", "    ARBORICX_PLAIN_USED,\n", ""),
     ("words for places", "size_t answer[ARBORICX_NAME_ANSWER]", "uint32_t answer[ARBORICX_NAME_ANSWER]"),
     ("another limit", "ARBORICX_MAX_SLOTS 65535", "ARBORICX_MAX_SLOTS 65536"),
     ("a half digest", "ARBORICX_DIGEST_BYTES 32", "ARBORICX_DIGEST_BYTES 16"),

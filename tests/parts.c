@@ -12,11 +12,6 @@ struct copy {
 
 static struct copy before, whole;
 
-static size_t open_bytes(const struct lent *lent)
-{
-    return (lent->length - lent->closed) * sizeof(uint32_t);
-}
-
 static void keep(struct copy *copy, const struct start *start)
 {
     memcpy(copy->words, start->words->words[ARCHIVE] + start->words->closed, open_bytes(start->words));

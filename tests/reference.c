@@ -20,6 +20,7 @@ enum {
     MAX_NODES = 512,
     MAX_SLOTS = 65535,
     MAX_JOBS = 65535,
+    MAX_PLAIN = 1000,
     SLOT_WORDS = 2,
     JOB_WORDS = 3,
     TYPE_MANIFEST = 1,
@@ -965,7 +966,7 @@ static bool slot_unused(int32_t slot, uint32_t used)
     return slot < 0 || (uint32_t)slot >= used;
 }
 
-/* What a run and a carry-on refuse alike: 21, 23 and 24. Else 0, and the machine has its slots, f and x. */
+/* What all kinds of runs refuse alike: 21, 23 and 24. Else 0, and the machine has its slots, f and x. */
 static uint32_t lend_slots(struct machine *machine, uint32_t *words, size_t words_len, int32_t base, int32_t f,
                            int32_t x)
 {
@@ -1078,4 +1079,187 @@ uint32_t reference_carry_on(uint32_t *words, size_t words_len, int32_t base, int
     if (reference_fault_at(FAULT_STEPS_FROM_ZERO))
         machine.steps = 0;
     return run_machine(&machine, answer);
+}
+
+/* ---- The plain run: one part applies, the other carries out what the rule left */
+
+/* Jobs are only counted: what a job would name is kept by the part that waits for an application to come back. */
+struct plain {
+    uint32_t *slots;
+    uint32_t used, room;
+    uint32_t waiting, job_room;
+    uint32_t fuel, steps;
+    uint32_t stop; /* why the last application did not come about, or 0 */
+};
+
+/* A tree by how many children it has. */
+struct shape {
+    unsigned children;
+    uint32_t first, second;
+};
+
+static struct shape shape_of(const uint32_t *slots, uint32_t slot)
+{
+    uint32_t first = slots[SLOT_WORDS * slot], second = slots[SLOT_WORDS * slot + 1];
+    struct shape shape = {(first > 0) + (second > 0), first - 1, second - 1};
+
+    return shape;
+}
+
+/* One of the seven rules, with the trees that it speaks of after f is taken apart. */
+struct rule {
+    unsigned number;
+    uint32_t a, b, c, u, v, x;
+};
+
+static struct rule rule_for(const uint32_t *slots, uint32_t f, uint32_t x)
+{
+    struct shape whole = shape_of(slots, f);
+    if (whole.children == 0)
+        return (struct rule){.number = 1, .x = x};
+    if (whole.children == 1)
+        return (struct rule){.number = 2, .a = whole.first, .x = x};
+
+    struct shape left = shape_of(slots, whole.first);
+    if (left.children == 0)
+        return (struct rule){.number = 3, .a = whole.second};
+    if (left.children == 1)
+        return (struct rule){.number = 4, .a = left.first, .b = whole.second, .x = x};
+
+    struct shape argument = shape_of(slots, x);
+    if (argument.children == 0)
+        return (struct rule){.number = 5, .a = left.first};
+    if (argument.children == 1)
+        return (struct rule){.number = 6, .b = left.second, .u = argument.first};
+    return (struct rule){.number = 7, .c = whole.second, .u = argument.first, .v = argument.second};
+}
+
+static uint32_t stop_before_rule(const struct plain *plain, unsigned number)
+{
+    bool makes = number == 1 || number == 2, waits = number == 4 || number == 7;
+    bool no_place = waits && plain->waiting >= plain->job_room;
+
+    if (reference_fault_at(FAULT_PLACE_BEFORE_FUEL) && no_place)
+        return 33;
+    if (plain->fuel == 0)
+        return 31;
+    if (makes && plain->used >= plain->room)
+        return 32;
+    return no_place ? 33 : 0;
+}
+
+static uint32_t carry_out(struct plain *plain, const struct rule *rule);
+
+/* The slot of the tree that f applied to x comes to. At a stop it is 0. */
+static uint32_t apply(struct plain *plain, uint32_t f, uint32_t x)
+{
+    struct rule rule = rule_for(plain->slots, f, x);
+
+    plain->stop = stop_before_rule(plain, rule.number);
+    if (plain->stop == 32 && reference_fault_at(FAULT_STEP_BEFORE_SLOT))
+        plain->steps++;
+    if (plain->stop != 0)
+        return reference_fault_at(FAULT_STOP_SLOT) ? f : 0;
+    plain->fuel--;
+    plain->steps++;
+    return carry_out(plain, &rule);
+}
+
+static uint32_t make_tree(struct plain *plain, uint32_t first, uint32_t second)
+{
+    write_slot(plain->slots, plain->used, first, second);
+    return plain->used++;
+}
+
+static void job_goes(struct plain *plain)
+{
+    if (!reference_fault_at(FAULT_JOB_KEPT))
+        plain->waiting--;
+}
+
+/* Rule 4: a to x, then b to x, then the first result to the second. It is one job until both results are there. */
+static uint32_t apply_both(struct plain *plain, uint32_t a, uint32_t b, uint32_t x)
+{
+    bool swapped = reference_fault_at(FAULT_SECOND_FIRST), early = reference_fault_at(FAULT_JOB_GONE_EARLY);
+
+    plain->waiting++;
+    uint32_t first = apply(plain, swapped ? b : a, x);
+    if (plain->stop != 0 && !reference_fault_at(FAULT_STOP_PASSED))
+        return first;
+    if (early)
+        job_goes(plain);
+    uint32_t second = apply(plain, swapped ? a : b, x);
+    if (plain->stop != 0)
+        return second;
+    if (!early)
+        job_goes(plain);
+    return swapped ? apply(plain, second, first) : apply(plain, first, second);
+}
+
+/* Rule 7: c to u, then the result to v. */
+static uint32_t apply_result(struct plain *plain, uint32_t c, uint32_t u, uint32_t v)
+{
+    plain->waiting++;
+    uint32_t result = apply(plain, c, u);
+    if (plain->stop != 0)
+        return result;
+    job_goes(plain);
+    return apply(plain, result, v);
+}
+
+static uint32_t carry_out(struct plain *plain, const struct rule *rule)
+{
+    switch (rule->number) {
+    case 1:
+        return make_tree(plain, rule->x + 1, 0);
+    case 2:
+        return make_tree(plain, rule->a + 1, rule->x + 1);
+    case 3:
+    case 5:
+        return rule->a;
+    case 4:
+        return apply_both(plain, rule->a, rule->b, rule->x);
+    case 6:
+        return apply(plain, rule->b, rule->u);
+    default:
+        return apply_result(plain, rule->c, rule->u, rule->v);
+    }
+}
+
+static bool too_deep(uint32_t fuel, uint32_t job_room)
+{
+    uint32_t most = MAX_PLAIN;
+
+    if (reference_fault_at(FAULT_DEEP_AT_LIMIT))
+        most--;
+    if (reference_fault_at(FAULT_DEEP_ABOVE_LIMIT))
+        most++;
+    return fuel > most || (job_room > most && !reference_fault_at(FAULT_DEEP_ROOM));
+}
+
+static uint32_t answer_plain(uint32_t answer[4], uint32_t number, uint32_t slot, uint32_t steps, uint32_t used)
+{
+    answer[0] = number;
+    answer[1] = slot;
+    answer[2] = steps;
+    answer[3] = used;
+    return number;
+}
+
+uint32_t reference_plain_run(uint32_t *words, size_t words_len, int32_t base, int32_t f, int32_t x, uint32_t used,
+                             uint32_t fuel, uint32_t job_room, uint32_t answer[4])
+{
+    struct machine lent = {.used = used};
+    uint32_t number = lend_slots(&lent, words, words_len, base, f, x);
+
+    if (reference_fault_at(FAULT_DEEP_FIRST) && number == 24 && too_deep(fuel, job_room))
+        number = 49;
+    if (number != 0)
+        return answer_plain(answer, number, 0, 0, 0);
+    if (too_deep(fuel, job_room))
+        return answer_plain(answer, 49, 0, 0, reference_fault_at(FAULT_DEEP_USED) ? used : 0);
+
+    struct plain plain = {.slots = lent.slots, .used = used, .room = lent.room, .job_room = job_room, .fuel = fuel};
+    uint32_t slot = apply(&plain, lent.f, lent.x);
+    return answer_plain(answer, plain.stop, slot, plain.steps, plain.used);
 }

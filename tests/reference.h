@@ -20,6 +20,9 @@ uint32_t reference_carry_on(uint32_t *words, size_t words_len, int32_t base, int
                             uint32_t waiting, uint32_t steps, uint32_t fuel, uint32_t *jobs, size_t jobs_len,
                             uint32_t answer[6]);
 
+uint32_t reference_plain_run(uint32_t *words, size_t words_len, int32_t base, int32_t f, int32_t x, uint32_t used,
+                             uint32_t fuel, uint32_t job_room, uint32_t answer[4]);
+
 uint32_t reference_export_index(const uint8_t *file, size_t file_len, const uint8_t *name, size_t name_len,
                                 uint32_t answer[2]);
 
@@ -61,6 +64,18 @@ enum reference_fault_place {
     FAULT_SUM_FIRST,          /* 40 is looked for before the waiting jobs are */
     FAULT_JOBS_ZEROED,        /* a carry-on zeroes the jobs first */
     FAULT_STEPS_FROM_ZERO,    /* a carry-on counts its own steps only */
+    FAULT_SECOND_FIRST,       /* plain: rule 4 applies b to x before a to x */
+    FAULT_JOB_KEPT,           /* plain: a job that is carried out is still counted */
+    FAULT_JOB_GONE_EARLY,     /* plain: while b is applied to x, the job of rule 4 is not counted */
+    FAULT_STOP_PASSED,        /* plain: a stop within a to x does not keep rule 4 from b to x */
+    FAULT_STEP_BEFORE_SLOT,   /* plain: a step is spent before stop 32 */
+    FAULT_PLACE_BEFORE_FUEL,  /* plain: stop 33 is looked for before stop 31 */
+    FAULT_STOP_SLOT,          /* plain: at a stop the slot is the f still to be applied */
+    FAULT_DEEP_AT_LIMIT,      /* plain: 1,000 is refused */
+    FAULT_DEEP_ABOVE_LIMIT,   /* plain: 1,001 is taken */
+    FAULT_DEEP_ROOM,          /* plain: the job room may be any */
+    FAULT_DEEP_FIRST,         /* plain: 49 is looked for before 24 */
+    FAULT_DEEP_USED,          /* plain: with 49 the used count is answered */
     FAULT_END
 };
 
