@@ -262,7 +262,7 @@ uint32_t arboricx_export_index(const uint8_t *file, size_t file_len,
 
 /*
  * The name of the export with an index: where it starts in the file, and how many bytes it has. It is valid UTF-8, may
- * have zero bytes in it, and has none behind it. Start and length are 0 where one of 1 to 14 holds or there is no such
+ * have zero bytes in it, and has none after it. Start and length are 0 where one of 1 to 14 holds or there is no such
  * index.
  */
 void arboricx_export_name(const uint8_t *file, size_t file_len, uint32_t index,

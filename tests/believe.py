@@ -31,7 +31,7 @@ FIXED = {
     "calculus/Machine": {"stopNumber": "Demand3.stop-numbers"},
     "nodes/Records": {"childrenOf": "Demand2.reads-children"},
     "table/Slots": {"room": "Demand1.room-is"},
-    "table/Frames": {"frameRoom": "Demand1.job-room-is", "recordAt": "Demand1.job-words"},
+    "frames/Frames": {"frameRoom": "Demand1.job-room-is", "jobWordsAt": "Demand1.job-words"},
 }
 
 

@@ -57,12 +57,12 @@ SOURCES = [
     ("lib.ListN", ["length", "take", "drop"]),
 ]
 WHERE = {name: source for source, names in SOURCES for name in names}
-# the types of answers, and where a definition `numbers` gives the paper's numbers of each case
+# the types of answers, and the definition that gives the paper's numbers of each case
 ANSWERS = {
-    "loader::LoadAnswer": "loader/Answer",
-    "engine::RunAnswer": "engine/Answer",
-    "plain::PlainAnswer": "plain/Answer",
-    "bundle::exports::IndexAnswer": "bundle/Exports",
+    "loader::LoadAnswer": "loader/Answer.loadNumbers",
+    "engine::RunAnswer": "engine/Answer.runNumbers",
+    "plain::PlainAnswer": "plain/Answer.plainNumbers",
+    "bundle::exports::IndexAnswer": "bundle/Exports.indexNumbers",
 }
 # the start of an item of a source file
 ITEM = re.compile(r'^( *)(?:pub(?:\(crate\))? )?(?:extern "C" )?(fn|const|struct|enum|impl|mod|use|ghost)\b *(\w*)|^ *#\[', re.M)
@@ -189,16 +189,16 @@ def public_faults(sources, name):
     return found
 
 
-def answer_faults(sources, name, module):
-    """Whether `numbers` takes the fields of each case in the order in which the code declares them, under their names; `n` is a number."""
-    crate, module = module.split("/")
-    cases = dict(re.findall(r"^numbers \((\w+)(.*?)\) =", sources.texts[f"crates/{crate}/specs/{module}.antt"], re.M))
+def answer_faults(sources, name, numbers):
+    """Whether its numbers take the fields of each case in the order in which the code declares them, under their names; `n` is a number."""
+    crate, module, definition = re.fullmatch(r"(\w+)/(\w+)\.(\w+)", numbers).groups()
+    cases = dict(re.findall(rf"^{definition} \((\w+)(.*?)\) =", sources.texts[f"crates/{crate}/specs/{module}.antt"], re.M))
     found = []
     for case, fields in re.findall(r"^    (\w+)\s*(\(.*?\)|\{.*?\})?,$", re.sub(r" *//[^\n]*\n", "\n", sources.declared(name)), re.M | re.S):
         named = re.findall(r"(\w+):", fields)
         taken = cases.get(case, "").split()
         if named and [{"n": "number"}.get(x, x) for x in taken] != named or not named and len(taken) != len(re.findall(r"\w+", fields)):
-            found.append(f"{sources.place(name)}: {name}: `numbers` of {crate}/{module} takes '{' '.join(taken)}' of {case}")
+            found.append(f"{sources.place(name)}: {name}: {numbers} takes '{' '.join(taken)}' of {case}")
     return found
 
 
@@ -272,7 +272,7 @@ def wrong(texts, sources):
         ("crates/engine/src/lib.rt", "        f: i32,\n        x: i32,\n        steps: u32,", "        x: i32,\n        f: i32,\n        steps: u32,", "engine::RunAnswer"),
         ("crates/loader/specs/Answer.antt", "(Accepted nodes exports)", "(Accepted exports nodes)", "loader::LoadAnswer"),
     ):
-        yield f"fields of {name} in another order", {path: texts[path].replace(old, new, 1)}, f"{name}: `numbers` of"
+        yield f"fields of {name} in another order", {path: texts[path].replace(old, new, 1)}, f"{name}: {ANSWERS[name]} takes"
     yield "a contract of another form", other("engine::run", "λ r.", "λ s."), "engine::run: its contract is not understood"
     for name, old, new in (
         ("loader::load", "accept, load}", "accept as load}"),
@@ -286,7 +286,7 @@ def wrong(texts, sources):
     ):
         path = sources.item(name)[0]
         yield f"'{new}' in {path}", {path: texts[path].replace(old, new, 1)}, f"{name}: '"
-    for path in ("crates/arboricx/src/lib.rt", "crates/engine/src/fuel.rt"):
+    for path in ("crates/arboricx/src/lib.rt", "crates/fuel/src/lib.rt"):
         new = '\n#[no_mangle]\npub extern "C" fn arboricx_new()\n    ensures { }\n{\n}\n'
         yield f"a call for C of {path} that no row has", {path: texts[path] + new}, "::arboricx_new: stands in no row"
         yield f"a call for C of {path} that is not known", {path: texts[path] + new}, "::arboricx_new: tests/contracts.py does not know"

@@ -490,7 +490,7 @@ static void damage_extent(struct bundle *bundle, const struct plan *plan, struct
     uint8_t *at = entry + (dice_once_in(dice, 3) ? ENTRY_OFFSET : ENTRY_LENGTH);
     uint64_t number = read_number(at, 8), by = dice_from(dice, 1, dice_once_in(dice, 2) ? 2 : 40);
     write_number(at, 8, dice_once_in(dice, 2) ? number + by : number - by);
-    if (dice_once_in(dice, 6)) { /* an empty section at the end of the file, or one byte behind it */
+    if (dice_once_in(dice, 6)) { /* an empty section at the end of the file, or one byte after it */
         write_number(entry + ENTRY_OFFSET, 8, bundle->length + dice_below(dice, 2));
         write_number(entry + ENTRY_LENGTH, 8, 0);
     }

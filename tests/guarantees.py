@@ -12,10 +12,10 @@ Each page is one table, with headings between groups of rows. What stands in `..
     Edits       crate: label, label     files of crates/crate/must-fail
 
 Where several files declare a name, it is written crate/Module.name.
-It fails unless every reference is there; each statement has in its row a proof of that type, the statement itself or applied to calls,
+It fails unless every reference is there; no two definitions of specs/ share a name; each statement has in its row a proof of that type, the statement itself or applied to calls,
 with no hypothesis, and each proof of a declared statement has that in its row; every must-fail edit stands in just one row; every field
-of those records, every statement that is proved, every function that is exported for C and every public call stands in some row; and
-the contracts of these functions say what tests/contracts.py wants of them.
+of those records, every statement that is proved, every function that is exported for C and every public call stands in some row, a
+field in one that has an edit or says where it is; and the contracts of these functions say what tests/contracts.py wants of them.
 
 Then the same is asked of pages and sources that are wrong, each in one way; the test fails if one of them passes.
 """
@@ -236,12 +236,15 @@ def faults(texts):
     for crate, label in sorted(tree.edits - set(standing["Edits"])):
         found.append(f"crates/{crate}/must-fail/{label}.edit: stands in no row")
     found += [f"{tree.field_place(field)}: {field}: stands in no row" for field in tree.fields if field not in standing["Statement"]]
+    tried = {name for row in rows if row.cells[-1] for name in row.names["Statement"]}
+    found += [f"{tree.field_place(field)}: {field}: no row of it has an edit, or says where" for field in tree.fields if field not in tried]
     for proof, statement in tree.proved.items():
         statement = statement.split()[0]
         crate, module, name = re.fullmatch(r"(\w+)/(.+)\.(\S+)", statement).groups()
         item = tree.specs.modules[crate, module].items[name]
         if re.search(r"Type 0\s*$", item.head) and item.kind == "abbrev pub" and statement not in standing["Statement"]:
             found.append(f"crates/{crate}/specs/{module.replace('.', '/')}.antt:{item.start}: {statement} is proved by {proof} and stands in no row")
+    found += [f"{name}: is declared twice: {', '.join(twice)}" for name, twice in tree.files_of["Definition"].items() if len(twice) > 1]
     functions, wrong = tree.exported()
     found += wrong
     found += [f"{tree.place(name)}: {name}: stands in no row" for name in contracts.CONTRACTS | functions if name not in standing["Function"]]
@@ -285,8 +288,8 @@ def wrong(texts):
         row = next(r for r in rows if r.names[column])
         name = row.written[column][0]
         yield f"a name that is not there, under {column}", in_row(row, f"`{name}`", f"`{name}x`"), f"{name}x: "
-    row = next(r for r in rows if "calculus/Cases.CasesHold" in r.written["Statement"])
-    yield "a name that several files declare", in_row(row, "`calculus/Cases.CasesHold`", "`CasesHold`"), f"{row.place}: CasesHold: 3 files of specs"
+    path, name = "crates/calculus/specs/Tree.antt", "MachineCasesHold"
+    yield "a name that two files declare", {path: texts[path] + f"\nabbrev pub {name} : Type 0\n{name} = Tree\n"}, f"{name}: is declared twice"
     row = next(r for r in rows if r.names["Statement"] and r.names["Proof"])
     yield "a proof left out", in_row(row, f"`{row.written['Proof'][0]}`", ""), f"{row.place}: {row.names['Statement'][0]}: no proof of this row"
     row = next(r for r in rows if r.edits)
@@ -298,6 +301,8 @@ def wrong(texts):
     other = next(r for r in rows if r.edits and r is not row)
     twice = in_row(other, f"`{other.written['Edits'][0]}`", f"`{other.written['Edits'][0]}`, `{crate}: {label}`")
     yield "an edit in two rows", twice, f"{crate}: {label}: stands in {row.place} too"
+    field, row = next((f, of[0]) for f in tree.fields if len(of := [r for r in rows if f in r.names["Statement"]]) == 1 and of[0].edits)
+    yield f"{field} with no edit", in_row(row, f"| {row.cells[-1]} |", "| |"), f"{field}: no row of it has an edit"
     yield "a path that is not there", {page: texts[page] + "\nSee docs/NOWHERE.md.\n"}, "there is no docs/NOWHERE.md"
     yield "one in a row", in_row(row, "| ", "| docs/NOWHERE.md "), f"{row.place}: there is no docs/NOWHERE.md"
     for field in (next(f for f in tree.fields if tree.fields[f][0].module.path == path) for path in RECORDS):

@@ -5,7 +5,7 @@ use mathlib.Core.List.{List, [], _∷_}
 use native.Mathlib.Nat.{add-zero, zero-add}
 use Rattle.engine.specs.declared.RunAnswer.{RunAnswer}
 use Rattle.engine.specs.declared.RunAnswer.the-variants.{Refused, Done, Stopped}
-use Rattle.engine.specs.Answer.{numbers}
+use Rattle.engine.specs.Answer.{runNumbers}
 use Rattle.plain.specs.declared.PlainAnswer.{PlainAnswer}
 use Rattle.plain.specs.declared.PlainAnswer.the-variants as plain
 use Rattle.plain.specs.Answer as plainly
@@ -24,9 +24,9 @@ run-words-are = (λ i. refl, words)
     words : (w j : List ℕ) (a : RunAnswer) →
         afterRun (ran w j a) ≡
         left w j
-        (numbers a .number ∷ (slotWord (numbers a .slot) + slotWord (numbers a .f)) ∷ slotWord (numbers a .x) ∷
-        numbers a .steps ∷ numbers a .used ∷ numbers a .waiting ∷ [])
-        (numbers a .number)
+        (runNumbers a .number ∷ (slotWord (runNumbers a .slot) + slotWord (runNumbers a .f)) ∷ slotWord (runNumbers a .x) ∷
+        runNumbers a .steps ∷ runNumbers a .used ∷ runNumbers a .waiting ∷ [])
+        (runNumbers a .number)
     words w j (Refused n) = refl
     words w j (Done slot steps used) = rw (add-zero (slotWord slot))
     words w j (Stopped n f x steps used waiting) = rw (zero-add (slotWord f))
@@ -36,8 +36,8 @@ plain-words-are = (words, λ w n. refl, λ w i steps used. refl, λ w n steps us
   where
     words : (w : List ℕ) (a : PlainAnswer) →
         afterPlain (played w a) ≡
-        leftOne w (plainly.numbers a .number ∷ slotWord (plainly.numbers a .slot) ∷ plainly.numbers a .steps ∷ plainly.numbers a .used ∷ [])
-        (plainly.numbers a .number)
+        leftOne w (plainly.plainNumbers a .number ∷ slotWord (plainly.plainNumbers a .slot) ∷ plainly.plainNumbers a .steps ∷ plainly.plainNumbers a .used ∷ [])
+        (plainly.plainNumbers a .number)
     words w (plain.Refused n) = refl
     words w (plain.Done slot steps used) = refl
     words w (plain.Stopped n steps used) = refl

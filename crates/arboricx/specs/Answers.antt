@@ -9,12 +9,12 @@ use Rattle.engine.specs.declared.RunAnswer.the-variants.{Refused, Done, Stopped
 use Rattle.plain.specs.declared.PlainAnswer.{PlainAnswer}
 use Rattle.plain.specs.declared.PlainAnswer.the-variants as plain
 use Rattle.bundle.specs.declared.exports.IndexAnswer.{IndexAnswer}
-use Rattle.bundle.specs.declared.exports.Part.{Part}
+use Rattle.wire.specs.declared.Part.{Part}
 use Rattle.bundle.specs.Exports as exports
 
 -- number, node count, export count
 abbrev pub loadWords : LoadAnswer → List ℕ
-loadWords a = load.numbers a .number ∷ load.numbers a .nodes ∷ load.numbers a .exports ∷ []
+loadWords a = load.loadNumbers a .number ∷ load.loadNumbers a .nodes ∷ load.loadNumbers a .exports ∷ []
 
 -- a slot as the word that C reads; none that is answered is negative (SlotsNamed of engine, PlainSlotNamed of plain)
 abbrev pub slotWord : ℤ → ℕ
@@ -35,7 +35,7 @@ plainWords (plain.Stopped n steps used) = n ∷ 0 ∷ steps ∷ used ∷ []
 
 -- number, index
 abbrev pub indexWords : IndexAnswer → List ℕ
-indexWords a = exports.numbers a .number ∷ exports.numbers a .index ∷ []
+indexWords a = exports.indexNumbers a .number ∷ exports.indexNumbers a .index ∷ []
 
 -- start, length
 abbrev pub partWords : Part → List ℕ

@@ -17,11 +17,11 @@ pub data Left : Type 0 where
 
 -- of a load: the word table and the export table
 abbrev pub afterLoad : Loaded → Left
-afterLoad (loaded words exports a) = left words exports (loadWords a) (load.numbers a .number)
+afterLoad (loaded words exports a) = left words exports (loadWords a) (load.loadNumbers a .number)
 
 -- of a run or a carry-on: the word table and the job table
 abbrev pub afterRun : Ran → Left
-afterRun (ran words jobs a) = left words jobs (runWords a) (run.numbers a .number)
+afterRun (ran words jobs a) = left words jobs (runWords a) (run.runNumbers a .number)
 
 -- one lent table, the answer's words, the number returned
 pub data LeftOne : Type 0 where
@@ -29,11 +29,11 @@ pub data LeftOne : Type 0 where
 
 -- of a plain run: the word table
 abbrev pub afterPlain : Played → LeftOne
-afterPlain (played words a) = leftOne words (plainWords a) (plain.numbers a .number)
+afterPlain (played words a) = leftOne words (plainWords a) (plain.plainNumbers a .number)
 
 -- the answer's words, the number returned
 pub data Told : Type 0 where
   told : List ℕ → ℕ → Told
 
 abbrev pub afterIndex : IndexAnswer → Told
-afterIndex a = told (indexWords a) (exports.numbers a .number)
+afterIndex a = told (indexWords a) (exports.indexNumbers a .number)

@@ -7,7 +7,7 @@ use Rattle.loader.specs.declared.LoadAnswer.the-variants as load
 use Rattle.loader.specs.Load.{loaded}
 use Rattle.bundle.specs.declared.exports.IndexAnswer.the-variants as index
 use Rattle.engine.specs.declared.RunAnswer.{RunAnswer}
-use Rattle.engine.specs.Answer.{numbers}
+use Rattle.engine.specs.Answer.{runNumbers}
 use Rattle.engine.specs.Run.{ran}
 use Rattle.plain.specs.declared.PlainAnswer.{PlainAnswer}
 use Rattle.plain.specs.declared.PlainAnswer.the-variants.{Refused, Done, Stopped}
@@ -31,9 +31,9 @@ RunWordsAre =
     ((w j : List ℕ) (a : RunAnswer) →
     afterRun (ran w j a) ≡
     left w j
-    (numbers a .number ∷ (slotWord (numbers a .slot) + slotWord (numbers a .f)) ∷ slotWord (numbers a .x) ∷ numbers a .steps ∷
-    numbers a .used ∷ numbers a .waiting ∷ [])
-    (numbers a .number))
+    (runNumbers a .number ∷ (slotWord (runNumbers a .slot) + slotWord (runNumbers a .f)) ∷ slotWord (runNumbers a .x) ∷ runNumbers a .steps ∷
+    runNumbers a .used ∷ runNumbers a .waiting ∷ [])
+    (runNumbers a .number))
 
 -- Of a plain run: the table as it leaves it; its numbers, and these are a refusal's number and zeros; 0, the result's slot, the steps and the
 -- used count; or a stop's number, 0, the steps and the used count; the number. The slot is not negative (PlainSlotNamed of plain).
@@ -42,8 +42,8 @@ PlainWordsAre =
     ((w : List ℕ) (a : PlainAnswer) →
     afterPlain (played w a) ≡
     leftOne w
-    (plain.numbers a .number ∷ slotWord (plain.numbers a .slot) ∷ plain.numbers a .steps ∷ plain.numbers a .used ∷ [])
-    (plain.numbers a .number)) ×
+    (plain.plainNumbers a .number ∷ slotWord (plain.plainNumbers a .slot) ∷ plain.plainNumbers a .steps ∷ plain.plainNumbers a .used ∷ [])
+    (plain.plainNumbers a .number)) ×
     ((w : List ℕ) (n : ℕ) → afterPlain (played w (Refused n)) ≡ leftOne w (n ∷ 0 ∷ 0 ∷ 0 ∷ []) n) ×
     ((w : List ℕ) (i steps used : ℕ) → afterPlain (played w (Done (pos i) steps used)) ≡ leftOne w (0 ∷ i ∷ steps ∷ used ∷ []) 0) ×
     ((w : List ℕ) (n steps used : ℕ) → afterPlain (played w (Stopped n steps used)) ≡ leftOne w (n ∷ 0 ∷ steps ∷ used ∷ []) n)

@@ -4,8 +4,8 @@ ghost use Rattle.sha256_block.specs.Fips180.{sha256};
 ghost use Rattle.bundle.specs.Checks.{refusal};
 ghost use Rattle.bundle.specs.Exports.{namePart, indexCall};
 ghost use Rattle.loader.specs.Load.{load};
-ghost use Rattle.engine.specs.Answer.{numbers};
-ghost use Rattle.engine.specs.Named.{Named};
+ghost use Rattle.engine.specs.Answer.{runNumbers};
+ghost use Rattle.engine.specs.Named.{RunSlotsUsed};
 ghost use Rattle.engine.specs.Run.{runFrom};
 ghost use Rattle.engine.specs.declared.From.the-variants.{Scratch, Stop};
 ghost use Rattle.plain.specs.Answer as plain;
@@ -14,7 +14,6 @@ ghost use Rattle.plain.specs.Run.{plainRun};
 ghost use Rattle.arboricx.specs.Answers.{runWords, plainWords, partWords};
 ghost use Rattle.arboricx.specs.Calls.{left, afterLoad, afterRun, leftOne, afterPlain, told, afterIndex};
 use bundle::exports::IndexAnswer;
-use bundle::exports::Part;
 use engine::From;
 use engine::RunAnswer;
 use loader::LoadAnswer;
@@ -54,8 +53,8 @@ pub extern "C" fn arboricx_load(
 
 // Writes the words of a run's answer. Returns its number.
 fn put_run(answer: &mut [u32; 6], a: RunAnswer) -> u32
-    requires { ⌜ Named a ⌝ }
-    ensures { λ r. ⌜ (now (answer .exit) ≡ runWords a) × (r ≡ numbers a .number) ⌝ }
+    requires { ⌜ RunSlotsUsed a ⌝ }
+    ensures { λ r. ⌜ (now (answer .exit) ≡ runWords a) × (r ≡ runNumbers a .number) ⌝ }
 {
     match a {
         RunAnswer::Refused(number) => {
@@ -140,8 +139,8 @@ pub extern "C" fn arboricx_carry_on(
 
 // Writes the words of a plain run's answer. Returns its number.
 fn put_plain(answer: &mut [u32; 4], a: PlainAnswer) -> u32
-    requires { ⌜ plainly.Named a ⌝ }
-    ensures { λ r. ⌜ (now (answer .exit) ≡ plainWords a) × (r ≡ plain.numbers a .number) ⌝ }
+    requires { ⌜ plainly.PlainSlotUsed a ⌝ }
+    ensures { λ r. ⌜ (now (answer .exit) ≡ plainWords a) × (r ≡ plain.plainNumbers a .number) ⌝ }
 {
     match a {
         PlainAnswer::Refused(number) => {

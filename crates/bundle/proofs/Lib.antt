@@ -1,7 +1,6 @@
-pub mod HeaderLaws
-pub mod Entries
-pub mod Hashes
-pub mod Rows
 pub mod Stages
 pub mod Verdicts
+pub mod ManifestRows
 pub mod NameParts
+pub mod ExportWays
+pub mod ExportsRead

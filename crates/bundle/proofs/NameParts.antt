@@ -1,8 +1,7 @@
 -- Where none of 1 to 14 holds, the part that is a name lies in the file, and its bytes are the text in the manifest section.
 use Prim.Native.Nat.{ℕ, _+_, _≤_}
-use mathlib.Core.Path.{_≡_, sym, _∙_}
+use mathlib.Core.Path.{_≡_, _∙_}
 use mathlib.Core.List.{List}
-use native.Mathlib.Nat.{add-assoc}
 use native.Mathlib.Omega.{arith}
 use lib.ListN.{length}
 use Rattle.wire.specs.Wire.{span}
@@ -11,18 +10,18 @@ use Rattle.manifest_shape.specs.declared.parts.Parsed.the-variants.{To}
 use Rattle.manifest.specs.Content.{textAt, countAt}
 use Rattle.manifest.specs.Judged.{exportPlace}
 use Rattle.manifest.proofs.Places.{place-text}
-use Rattle.bundle.specs.Directory.{entries, entryOf, manifestKind, section, manifestSection}
+use Rattle.container.specs.Directory.{entries, entryOf, manifestKind, section, manifestSection}
 use Rattle.bundle.specs.Checks.{nameRefusal}
 use Rattle.bundle.specs.Exports.{manifestStart}
 use Rattle.bundle.proofs.Stages.{names-section}
 
-module _ (file : List ℕ) {n : ℕ} (e : n ≡ nameRefusal file) (z : n ≡ 0) where
+module _ (file : List ℕ) (z : nameRefusal file ≡ 0) where
   size : ℕ
   size = entryOf manifestKind (entries file) .size
 
   section-length : length (manifestSection file) ≡ size
   unfolding section size
-  section-length = span-length file (manifestStart file) size (names-section file e z manifestKind)
+  section-length = span-length file (manifestStart file) size (names-section file z manifestKind)
 
   module _ (i : ℕ) {at : ℕ} (g : exportPlace (manifestSection file) i ≡ To at) where
     in-section : at + 4 + countAt (manifestSection file) at ≤ size
@@ -30,7 +29,7 @@ module _ (file : List ℕ) {n : ℕ} (e : n ≡ nameRefusal file) (z : n ≡ 0) 
 
     pub name-inside : manifestStart file + (at + 4) + countAt (manifestSection file) at ≤ length file
     unfolding size
-    name-inside = omega (arith, in-section, names-section file e z manifestKind)
+    name-inside = omega (arith, in-section, names-section file z manifestKind)
 
     pub name-bytes :
         textAt (manifestSection file) (To at)
@@ -39,4 +38,4 @@ module _ (file : List ℕ) {n : ℕ} (e : n ≡ nameRefusal file) (z : n ≡ 0) 
     name-bytes =
         place-text (manifestSection file) i g .is ∙
         span-within file (manifestStart file) size (at + 4) (countAt (manifestSection file) at)
-        (names-section file e z manifestKind) in-section
+        (names-section file z manifestKind) in-section

@@ -3,17 +3,17 @@ use Prim.Native.Nat.{ℕ, _+_}
 use mathlib.Core.List.{List, [], _∷_}
 use mathlib.Core.Bool.{cond}
 use lib.Dec.{eqb}
-use Rattle.wire.specs.declared.Found.{Found}
-use Rattle.wire.specs.declared.Found.the-variants.{Index as FoundAt, Nothing}
+use Rattle.lists.specs.declared.Found.{Found}
+use Rattle.lists.specs.declared.Found.the-variants.{Index as FoundAt, Nothing}
 use Rattle.wire.specs.Wire.{span}
 use Rattle.manifest_shape.specs.declared.parts.Parsed.{Parsed}
 use Rattle.manifest_shape.specs.Shape.{onParsed}
 use Rattle.manifest.specs.Content.{countAt}
 use Rattle.manifest.specs.Judged.{exportPlace, exportIndex}
-use Rattle.bundle.specs.declared.exports.Part.{Part}
+use Rattle.wire.specs.declared.Part.{Part}
 use Rattle.bundle.specs.declared.exports.IndexAnswer.{IndexAnswer}
 use Rattle.bundle.specs.declared.exports.IndexAnswer.the-variants.{Refused, Index}
-use Rattle.bundle.specs.Directory.{entries, entryOf, manifestKind, manifestSection}
+use Rattle.container.specs.Directory.{entries, entryOf, manifestKind, manifestSection}
 use Rattle.bundle.specs.Checks.{nameRefusal}
 
 abbrev pub emptyPart : Part
@@ -23,7 +23,7 @@ emptyPart = record { start = 0; size = 0 }
 abbrev pub manifestStart : List ℕ → ℕ
 manifestStart file = entryOf manifestKind (entries file) .offset
 
--- the name of an export that stands at a position of the manifest section: behind its length, and as long as that says
+-- the name of an export that stands at a position of the manifest section: after its length, and as long as that says
 unfoldable pub nameAt : List ℕ → Parsed → Part
 nameAt file p =
     onParsed p
@@ -44,20 +44,20 @@ unfoldable pub indexAsked : List ℕ → List ℕ → Found
 indexAsked m [] = FoundAt 0
 indexAsked m (b ∷ bs) = exportIndex m (b ∷ bs)
 
-abbrev pub answerOf : Found → IndexAnswer
-answerOf (FoundAt i) = Index i
-answerOf Nothing = Refused 25
+abbrev pub indexAnswer : Found → IndexAnswer
+indexAnswer (FoundAt i) = Index i
+indexAnswer Nothing = Refused 25
 
 -- export index by name: with 1 to 14 it answers that refusal, else 25 or the index
 unfoldable pub indexCall : List ℕ → List ℕ → IndexAnswer
 indexCall file name =
-    cond (eqb (nameRefusal file) 0) (answerOf (indexAsked (manifestSection file) name)) (Refused (nameRefusal file))
+    cond (eqb (nameRefusal file) 0) (indexAnswer (indexAsked (manifestSection file) name)) (Refused (nameRefusal file))
 
 -- the paper's numbers of an answer: the number, and the index
 pub record IndexNumbers : Type 0 where
   pub number : ℕ
   pub index : ℕ
 
-abbrev pub numbers : IndexAnswer → IndexNumbers
-numbers (Refused n) = record { number = n; index = 0 }
-numbers (Index i) = record { number = 0; index = i }
+abbrev pub indexNumbers : IndexAnswer → IndexNumbers
+indexNumbers (Refused n) = record { number = n; index = 0 }
+indexNumbers (Index i) = record { number = 0; index = i }

@@ -4,15 +4,18 @@ use mathlib.Core.Path.{_≡_, refl, ap}
 use mathlib.Core.List.{List, [], _∷_, _++_, map}
 use mathlib.Core.Bool.{Bool, false, not, cond}
 use lib.ListN.{length, getD, take, drop, set}
-use Rattle.wire.specs.Wire.{sameBytes, someOf, ascii}
-use Rattle.wire.proofs.Bytes.{same-sound}
+use Rattle.wire.specs.Wire.{ascii}
+use Rattle.lists.specs.Lists.{sameBytes, someOf}
+use Rattle.lists.proofs.Same.{same-sound}
 use Rattle.table.proofs.Tests.{by-test}
 use Rattle.sha256_block.specs.Fips180.{K, H0, tabulate, lengthBytes, padding, padded, nextWord, schedule, round, rounds, combined}
 use Rattle.sha256_block.specs.Fips180.{compress, hash, bytesOf, sha256}
-use Rattle.nodes.specs.Records.{Node, nodesOf, nodeHash, faulty as recordFaulty, someFaulty as someRecord}
-use Rattle.bundle.specs.Directory.{entries, known, sectionOf, digestOf, altered, nodesSection, faulty as entryFaulty}
-use Rattle.bundle.specs.Directory.{someFaulty as someEntry}
-use Rattle.bundle.specs.Checks.{_when_, firstOf, headerChecks, directoryChecks, manifestChecks, nodeChecks, nameChecks}
+use Rattle.nodes.specs.Records.{NodeRecord, nodesOf, nodeHash, recordFaulty, someRecord}
+use Rattle.container.specs.Directory.{entries, known, sectionOf, digestOf, altered, nodesSection, entryFaulty}
+use Rattle.container.specs.Directory.{someEntry}
+use Rattle.bundle.specs.Checks.{manifestChecks, nodeChecks, nameChecks}
+use Rattle.refusals.specs.Refusals.{_when_, answer}
+use Rattle.container.specs.Checks.{headerChecks, directoryChecks, containerChecks}
 use Rattle.bundle.specs.Checks.{checks, refusal}
 use Rattle.bundle_example.specs.Leaf.{leafBundle}
 
@@ -89,14 +92,14 @@ abbrev alteredBy : (List ℕ → List ℕ) → List ℕ → Bool
 alteredBy h file =
     someOf (λ e rest. cond (known (e .kind)) (not (sameBytes (h (sectionOf file e)) (digestOf file e))) false) (entries file)
 
-abbrev wrongBy : (List ℕ → List ℕ) → List Node → Bool
+abbrev wrongBy : (List ℕ → List ℕ) → List NodeRecord → Bool
 wrongBy h rs = someOf (λ r rest. not (sameBytes (r .hash) (h (ascii "arboricx.merkle.node.v1" ++ (0 ∷ r .payload))))) rs
 
 abbrev pub refusalBy : (List ℕ → List ℕ) → List ℕ → ℕ
 refusalBy h file =
-    firstOf (set (set (checks file) 10 (11 when alteredBy h file)) 15 (16 when wrongBy h (nodesOf (nodesSection file))))
+    answer (set (set (checks file) 10 (11 when alteredBy h file)) 15 (16 when wrongBy h (nodesOf (nodesSection file))))
 
 pub refusal-by : (file : List ℕ) → refusal file ≡ refusalBy digest file
 unfolding entryFaulty someEntry altered nodeHash recordFaulty someRecord headerChecks directoryChecks manifestChecks nodeChecks
-    nameChecks checks refusal
+    containerChecks nameChecks checks refusal
 refusal-by file = λ i. refusalBy (λ m. digest-is m i) file

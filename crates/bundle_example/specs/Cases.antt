@@ -15,7 +15,7 @@ pub record Change : Type 0 where
   pub bytes : List ℕ
 
 -- what is changed, and the number that is answered then
-pub record Case : Type 0 where
+pub record BundleCase : Type 0 where
   pub changes : List Change
   pub number : ℕ
 
@@ -33,7 +33,7 @@ bytes at place = record { place = place; bytes = bytes } ∷ []
 abbrev pub _and_ : List Change → List Change → List Change
 some and more = some ++ more
 
-abbrev pub _answers_ : List Change → ℕ → Case
+abbrev pub _answers_ : List Change → ℕ → BundleCase
 changes answers n = record { changes = changes; number = n }
 
 -- the file with its changes; bytes put past its end make it longer
@@ -42,8 +42,8 @@ changed file [] = file
 changed file (c ∷ cs) =
     changed (take (c .place) file ++ (c .bytes ++ drop (c .place + length (c .bytes)) file)) cs
 
-unfoldable pub cases : List Case
-cases =
+unfoldable pub bundleCases : List BundleCase
+bundleCases =
     -- nothing changed; another minor of the header; a byte of the magic, major, section count, directory offset
     (0 to 0x41 answers 0) ∷ (11 to 7 answers 0) ∷ (7 to 0x59 answers 3) ∷ (9 to 2 answers 4) ∷ (15 to 0 answers 5) ∷
     (15 to 17 answers 5) ∷ (31 to 33 answers 5) ∷
@@ -80,7 +80,7 @@ nodesDigest v = bytesOf v at 120
 
 -- The same with the digest made right. At 59 and 119 stand the low bytes of the sections' lengths, at 111 of the nodes' offset; in the
 -- manifest closure at 381, the last byte of the root's hash at 417, the export from 433 to 505; in the nodes the record from 521 to 558.
-unfoldable pub deeper : List Case
+unfoldable pub deeper : List BundleCase
 deeper =
     -- closure 2; the high byte of the metadata count: rules out a reader of the count in two bytes
     (381 to 2
@@ -149,11 +149,11 @@ deeper =
     []
 
 -- of each case of a list its number is answered
-abbrev pub Hold : List Case → Type 0
+abbrev pub Hold : List BundleCase → Type 0
 Hold cs = map (λ c. refusal (changed leafBundle (c .changes))) cs ≡ map (λ c. c .number) cs
 
-abbrev pub CasesHold : Type 0
-CasesHold = Hold cases
+abbrev pub BundleCasesHold : Type 0
+BundleCasesHold = Hold bundleCases
 
 abbrev pub DeeperHold : Type 0
 DeeperHold = Hold deeper

@@ -5,8 +5,8 @@ use mathlib.Core.List.{List, [], _∷_, _++_, map}
 use lib.IntN.{ℤ, pos, negsuc}
 use Rattle.wire.specs.Wire.{ascii}
 use Rattle.loader.specs.Load.{Loaded, loaded, load}
-use Rattle.loader.specs.Answer.{Numbers, numbers}
-use Rattle.listing.specs.Text.{newline}
+use Rattle.loader.specs.Answer.{LoadNumbers, loadNumbers}
+use Rattle.text.specs.Text.{newline}
 use Rattle.listing.specs.Listing.{listing}
 use Rattle.bundle_example.specs.Leaf.{leafBundle}
 
@@ -16,34 +16,34 @@ pub record Tables : Type 0 where
   pub exports : List ℕ
 
 -- the tables at exit, and the answer's numbers
-pub record Seen : Type 0 where
+pub record LoadSeen : Type 0 where
   pub left : Tables
-  pub answer : Numbers
+  pub answer : LoadNumbers
 
-pub record Case : Type 0 where
+pub record LoadCase : Type 0 where
   pub lent : Tables
   pub base : ℤ
-  pub seen : Seen
+  pub seen : LoadSeen
 
-abbrev pub seenOf : Loaded → Seen
-seenOf (loaded w out a) = record { left = record { words = w; exports = out }; answer = numbers a }
+abbrev pub seenOf : Loaded → LoadSeen
+seenOf (loaded w out a) = record { left = record { words = w; exports = out }; answer = loadNumbers a }
 
--- an accepted load: the words before and behind it, the words of a slot before; the export words before, and those behind
-abbrev pub accepts : List ℕ → ℕ → List ℕ → List ℕ → Case
-accepts before b behind rest =
+-- an accepted load: the words before and after it, the words of a slot before; the export words before, and those after
+abbrev pub accepts : List ℕ → ℕ → List ℕ → List ℕ → LoadCase
+accepts before b later rest =
     record {
-      lent = record { words = before ++ (7 ∷ 7 ∷ behind); exports = 8 ∷ rest };
+      lent = record { words = before ++ (7 ∷ 7 ∷ later); exports = 8 ∷ rest };
       base = pos b;
       seen =
           record {
-            left = record { words = before ++ (0 ∷ 0 ∷ behind); exports = 0 ∷ rest };
+            left = record { words = before ++ (0 ∷ 0 ∷ later); exports = 0 ∷ rest };
             answer = record { number = 0; nodes = 1; exports = 1 };
           };
     }
 
 -- a refused one leaves both tables as they were
-abbrev pub refuses : List ℕ → ℤ → List ℕ → ℕ → Case
-refuses words base exports n =
+abbrev pub loadRefuses : List ℕ → ℤ → List ℕ → ℕ → LoadCase
+loadRefuses words base exports n =
     record {
       lent = record { words = words; exports = exports };
       base = base;
@@ -54,23 +54,23 @@ refuses words base exports n =
           };
     }
 
-unfoldable pub cases : List Case
-cases =
-    -- base 0, a table of one slot; base 3, behind three words of the receiver's
+unfoldable pub loadCases : List LoadCase
+loadCases =
+    -- base 0, a table of one slot; base 3, after three words of the receiver's
     accepts [] 0 [] []
     ∷ accepts (5 ∷ 6 ∷ 5 ∷ []) 3 (6 ∷ []) (9 ∷ [])
     -- base -1; past the end; equal to the length, since room is 0; room for less than a slot
-    ∷ refuses (7 ∷ 7 ∷ []) (negsuc 0) (8 ∷ []) 21
-    ∷ refuses (7 ∷ 7 ∷ []) (pos 3) (8 ∷ []) 21
-    ∷ refuses (7 ∷ 7 ∷ []) (pos 2) (8 ∷ []) 21
-    ∷ refuses (7 ∷ 7 ∷ []) (pos 1) [] 21
+    ∷ loadRefuses (7 ∷ 7 ∷ []) (negsuc 0) (8 ∷ []) 21
+    ∷ loadRefuses (7 ∷ 7 ∷ []) (pos 3) (8 ∷ []) 21
+    ∷ loadRefuses (7 ∷ 7 ∷ []) (pos 2) (8 ∷ []) 21
+    ∷ loadRefuses (7 ∷ 7 ∷ []) (pos 1) [] 21
     -- no word for the export
-    ∷ refuses (7 ∷ 7 ∷ []) (pos 0) [] 22
+    ∷ loadRefuses (7 ∷ 7 ∷ []) (pos 0) [] 22
     ∷ []
 
 abbrev pub LoadsHold : Type 0
 LoadsHold =
-    map (λ c. seenOf (load leafBundle (c .lent .words) (c .base) (c .lent .exports))) cases ≡ map (λ c. c .seen) cases
+    map (λ c. seenOf (load leafBundle (c .lent .words) (c .base) (c .lent .exports))) loadCases ≡ map (λ c. c .seen) loadCases
 
 -- "For a sound bundle of one leaf, exported as `main`, its whole output is `ok nodes 1 exports 1`, newline, `0 4 main`, newline"
 abbrev pub Writes : Type 0

@@ -1,13 +1,13 @@
 -- The marked cases and the further ones, by computation.
 use mathlib.Core.Path.{refl}
-use Rattle.calculus.specs.Rules.{rule}
-use Rattle.calculus.specs.Machine.{meet, carry, step, run}
-use Rattle.calculus.specs.Cases.{peak, CasesHold, FurtherHold}
+use Rattle.calculus.specs.Rules.{treeRule}
+use Rattle.calculus.specs.Machine.{machineMeet, machineCarry, machineStep, run}
+use Rattle.calculus.specs.Cases.{peak, MachineCasesHold, FurtherHold}
 
-pub cases-hold : CasesHold
-unfolding rule meet carry step run peak
+pub cases-hold : MachineCasesHold
+unfolding treeRule machineMeet machineCarry machineStep run peak
 cases-hold = refl
 
 pub further-hold : FurtherHold
-unfolding rule meet carry step run peak
+unfolding treeRule machineMeet machineCarry machineStep run peak
 further-hold = refl

@@ -2,7 +2,7 @@
 use mathlib.Core.Path.{refl, ap}
 use lib.ListN.{length}
 use native.Mathlib.Nat.{le-refl}
-use Rattle.calculus.specs.Machine.{start, Outcome, run}
+use Rattle.calculus.specs.Machine.{machineStart, Outcome, run}
 use Rattle.calculus.specs.Laws.{DoneExactly}
 use Rattle.calculus.proofs.Costs.{costs-exactly}
 use Rattle.calculus.proofs.DoneByCost.{done-by-cost}
@@ -10,7 +10,7 @@ use Rattle.calculus.proofs.DoneByCost.{done-by-cost}
 pub done-exactly : DoneExactly
 done-exactly f x t = (
   λ (fuel, free, places, e).
-      let o = run fuel free places (start f x) in
+      let o = run fuel free places (machineStart f x) in
       let (k, c, steps, slots, places-do) = done-by-cost fuel free places (o .steps) (length (o .made)) f x t .0
       (o .made, refl, λ i. record { ending = e i; steps = o .steps; made = o .made })
       in

@@ -10,24 +10,24 @@ use borrow.Author.Tests.{lt-ltb, le-ltb}
 use lib.Dec.{ltb}
 use lib.ListN.{length}
 use Rattle.calculus.specs.Tree.{Tree, leaf, stem, fork}
-use Rattle.calculus.specs.Rules.{Frame, operand, argument, function, rule}
-use Rattle.calculus.specs.Machine.{State, Stop, no-fuel, no-slot, no-place, Turn, going, done, stop, meet, carry, step}
+use Rattle.calculus.specs.Rules.{TreeFrame, operand, argument, function, treeRule}
+use Rattle.calculus.specs.Machine.{MachineState, Stop, out-of-fuel, out-of-slots, out-of-places, MachineTurn, going, done, stop, machineMeet, machineCarry, machineStep}
 use Rattle.calculus.specs.Machine.{Ending, ended, stopped, Outcome, halted, proceed, run}
 use Rattle.calculus.specs.Laws.{StopsAt, fuel-out, slot-for-1, slot-for-2, place-for-4, place-for-7, StopsExactly}
 use Rattle.calculus.specs.Laws.{StopNumbers}
 
 -- why a run ended without being done
 abbrev reason : Ending → Stop
-reason (ended t) = no-fuel
+reason (ended t) = out-of-fuel
 reason (stopped why f x js) = why
 
-abbrev Stops : Turn → Stop → Type 0
+abbrev Stops : MachineTurn → Stop → Type 0
 Stops (going made s) why = ⊥
 Stops (done made t) why = ⊥
 Stops (stop n) why = n ≡ why
 
 -- a run that comes to nothing is one whose first turn stops
-turn-exactly : (rest : ℕ → ℕ → State → Outcome) (free places : ℕ) (s : State) (t : Turn) (why : Stop) →
+turn-exactly : (rest : ℕ → ℕ → MachineState → Outcome) (free places : ℕ) (s : MachineState) (t : MachineTurn) (why : Stop) →
     (proceed rest free places s t ≡ halted why s) ↔ Stops t why
 turn-exactly rest free places s (going made n) why = (λ e. omega (arith, ap (λ (o : Outcome). o .steps) e), λ h. absurd h)
 turn-exactly rest free places s (done made t) why = (λ e. omega (arith, ap (λ (o : Outcome). o .steps) e), λ h. absurd h)
@@ -35,15 +35,15 @@ turn-exactly rest free places s (stop n) why =
     (λ e. ap (λ (o : Outcome). reason (o .ending)) e, λ e. ap (λ (w : Stop). halted w s) e)
 
 -- a tree that meets a frame stops nothing
-meets : (made : List Tree) (t : Tree) (js : List Frame) (why : Stop) → Stops (meet made t js) why → ⊥
-unfolding meet
+meets : (made : List Tree) (t : Tree) (js : List TreeFrame) (why : Stop) → Stops (machineMeet made t js) why → ⊥
+unfolding machineMeet
 meets made t [] why h = h
 meets made t (operand b x ∷ js) why h = h
 meets made t (argument v ∷ js) why h = h
 meets made t (function w ∷ js) why h = h
 
 -- what is tested before it is done: m is below n, or `t` stops for want
-tested : (m n : ℕ) (t : Turn) (want why : Stop) → (Stops t why → ⊥) →
+tested : (m n : ℕ) (t : MachineTurn) (want why : Stop) → (Stops t why → ⊥) →
     Stops (cond (ltb m n) t (stop want)) why ↔ ((n ≤ m) × (want ≡ why))
 tested m n t want why goes = elim (decLt m n) [
   | yes l ↦ rw (lt-ltb m n l) (λ h. absurd (goes h), λ h. absurd (omega (arith, h .0)))
@@ -51,36 +51,36 @@ tested m n t want why goes = elim (decLt m n) [
 ]
 
 module _ (fuel free places : ℕ) where
-  stops-so : (f x : Tree) (js : List Frame) (why : Stop) → Stops (carry free places js (rule f x)) why →
+  stops-so : (f x : Tree) (js : List TreeFrame) (why : Stop) → Stops (machineCarry free places js (treeRule f x)) why →
       StopsAt (suc fuel) free places f x js why
-  unfolding carry rule
+  unfolding machineCarry treeRule
   stops-so leaf x js why h =
-      let (l, e) = tested 0 free _ no-slot why (meets _ _ js why) .0 h in
+      let (l, e) = tested 0 free _ out-of-slots why (meets _ _ js why) .0 h in
       subst (StopsAt (suc fuel) free places leaf x js) e (slot-for-1 (omega arith) (omega (arith, l)))
   stops-so (stem a) x js why h =
-      let (l, e) = tested 0 free _ no-slot why (meets _ _ js why) .0 h in
+      let (l, e) = tested 0 free _ out-of-slots why (meets _ _ js why) .0 h in
       subst (StopsAt (suc fuel) free places (stem a) x js) e (slot-for-2 (omega arith) (omega (arith, l)))
   stops-so (fork leaf a) x js why h = absurd (meets [] a js why h)
   stops-so (fork (stem a) b) x js why h =
-      let (l, e) = tested (length js) places _ no-place why (λ k. k) .0 h in
+      let (l, e) = tested (length js) places _ out-of-places why (λ k. k) .0 h in
       subst (StopsAt (suc fuel) free places (fork (stem a) b) x js) e (place-for-4 (omega arith) l)
   stops-so (fork (fork a b) c) leaf js why h = absurd (meets [] a js why h)
   stops-so (fork (fork a b) c) (stem u) js why h = absurd h
   stops-so (fork (fork a b) c) (fork u v) js why h =
-      let (l, e) = tested (length js) places _ no-place why (λ k. k) .0 h in
+      let (l, e) = tested (length js) places _ out-of-places why (λ k. k) .0 h in
       subst (StopsAt (suc fuel) free places (fork (fork a b) c) (fork u v) js) e (place-for-7 (omega arith) l)
 
-  so-stops : (f x : Tree) (js : List Frame) (why : Stop) → StopsAt (suc fuel) free places f x js why →
-      Stops (carry free places js (rule f x)) why
-  unfolding carry rule
+  so-stops : (f x : Tree) (js : List TreeFrame) (why : Stop) → StopsAt (suc fuel) free places f x js why →
+      Stops (machineCarry free places js (treeRule f x)) why
+  unfolding machineCarry treeRule
   so-stops f x js _ (fuel-out z) = absurd (omega arith)
-  so-stops _ x js _ (slot-for-1 g z) = tested 0 free _ no-slot no-slot (meets _ _ js no-slot) .1 (omega arith, refl)
-  so-stops _ x js _ (slot-for-2 g z) = tested 0 free _ no-slot no-slot (meets _ _ js no-slot) .1 (omega arith, refl)
-  so-stops _ x js _ (place-for-4 g l) = tested (length js) places _ no-place no-place (λ k. k) .1 (l, refl)
-  so-stops _ _ js _ (place-for-7 g l) = tested (length js) places _ no-place no-place (λ k. k) .1 (l, refl)
+  so-stops _ x js _ (slot-for-1 g z) = tested 0 free _ out-of-slots out-of-slots (meets _ _ js out-of-slots) .1 (omega arith, refl)
+  so-stops _ x js _ (slot-for-2 g z) = tested 0 free _ out-of-slots out-of-slots (meets _ _ js out-of-slots) .1 (omega arith, refl)
+  so-stops _ x js _ (place-for-4 g l) = tested (length js) places _ out-of-places out-of-places (λ k. k) .1 (l, refl)
+  so-stops _ _ js _ (place-for-7 g l) = tested (length js) places _ out-of-places out-of-places (λ k. k) .1 (l, refl)
 
 -- with no fuel there is no other reason
-unfuelled : {free places : ℕ} {f x : Tree} {js : List Frame} {why : Stop} → StopsAt 0 free places f x js why → no-fuel ≡ why
+unfuelled : {free places : ℕ} {f x : Tree} {js : List TreeFrame} {why : Stop} → StopsAt 0 free places f x js why → out-of-fuel ≡ why
 unfuelled (fuel-out z) = refl
 unfuelled (slot-for-1 g z) = absurd (omega arith)
 unfuelled (slot-for-2 g z) = absurd (omega arith)
@@ -88,13 +88,13 @@ unfuelled (place-for-4 g l) = absurd (omega arith)
 unfuelled (place-for-7 g l) = absurd (omega arith)
 
 pub stops-exactly : StopsExactly
-unfolding run step
+unfolding run machineStep
 stops-exactly zero free places s why = (
   λ e. subst (StopsAt 0 free places (s .f) (s .x) (s .frames)) (ap (λ (o : Outcome). reason (o .ending)) e) (fuel-out refl),
   λ h. ap (λ (w : Stop). halted w s) (unfuelled h),
 )
 stops-exactly (suc fuel) free places s why =
-    let turn = turn-exactly (run fuel) free places s (step free places s) why in (
+    let turn = turn-exactly (run fuel) free places s (machineStep free places s) why in (
       λ e. stops-so fuel free places (s .f) (s .x) (s .frames) why (turn .0 e),
       λ h. turn .1 (so-stops fuel free places (s .f) (s .x) (s .frames) why h),
     )

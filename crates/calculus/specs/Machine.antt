@@ -6,58 +6,58 @@ use mathlib.Core.List.{List, [], _∷_, _++_, reverse}
 use lib.ListN.{length}
 use lib.Dec.{ltb}
 use Rattle.calculus.specs.Tree.{Tree}
-use Rattle.calculus.specs.Rules.{Frame, operand, argument, function, Action, make, give, go, push, rule}
+use Rattle.calculus.specs.Rules.{TreeFrame, operand, argument, function, TreeAction, make, give, go, push, treeRule}
 
 -- f is to be applied to x; the frames wait, newest first
-pub record State : Type 0 where
+pub record MachineState : Type 0 where
   pub f : Tree
   pub x : Tree
-  pub frames : List Frame
+  pub frames : List TreeFrame
 
 -- a run starts with no frame
-abbrev pub start : Tree → Tree → State
-start f x = record { f = f; x = x; frames = [] }
+abbrev pub machineStart : Tree → Tree → MachineState
+machineStart f x = record { f = f; x = x; frames = [] }
 
 -- why a machine stops before it is done
 pub data Stop : Type 0 where
-  no-fuel : Stop
-  no-slot : Stop
-  no-place : Stop
+  out-of-fuel : Stop
+  out-of-slots : Stop
+  out-of-places : Stop
 
 -- the paper's numbers
 abbrev pub stopNumber : Stop → ℕ
-stopNumber no-fuel = 31
-stopNumber no-slot = 32
-stopNumber no-place = 33
+stopNumber out-of-fuel = 31
+stopNumber out-of-slots = 32
+stopNumber out-of-places = 33
 
 -- what one step leaves, with the nodes that it made: one or none
-pub data Turn : Type 0 where
-  going : List Tree → State → Turn
-  done : List Tree → Tree → Turn
-  stop : Stop → Turn
+pub data MachineTurn : Type 0 where
+  going : List Tree → MachineState → MachineTurn
+  done : List Tree → Tree → MachineTurn
+  stop : Stop → MachineTurn
 
 -- a tree given or made meets the newest frame, at no cost
-unfoldable pub meet : List Tree → Tree → List Frame → Turn
-meet made t [] = done made t
-meet made t (operand b x ∷ js) = going made (record { f = b; x = x; frames = function t ∷ js })
-meet made t (argument v ∷ js) = going made (record { f = t; x = v; frames = js })
-meet made t (function w ∷ js) = going made (record { f = w; x = t; frames = js })
+unfoldable pub machineMeet : List Tree → Tree → List TreeFrame → MachineTurn
+machineMeet made t [] = done made t
+machineMeet made t (operand b x ∷ js) = going made (record { f = b; x = x; frames = function t ∷ js })
+machineMeet made t (argument v ∷ js) = going made (record { f = t; x = v; frames = js })
+machineMeet made t (function w ∷ js) = going made (record { f = w; x = t; frames = js })
 
 -- what the rule asks for is done, if there is a slot or a place left for it
-unfoldable pub carry : ℕ → ℕ → List Frame → Action → Turn
-carry free places js (make t) = cond (ltb 0 free) (meet (t ∷ []) t js) (stop no-slot)
-carry free places js (give t) = meet [] t js
-carry free places js (go f x) = going [] (record { f = f; x = x; frames = js })
-carry free places js (push f x j) =
-    cond (ltb (length js) places) (going [] (record { f = f; x = x; frames = j ∷ js })) (stop no-place)
+unfoldable pub machineCarry : ℕ → ℕ → List TreeFrame → TreeAction → MachineTurn
+machineCarry free places js (make t) = cond (ltb 0 free) (machineMeet (t ∷ []) t js) (stop out-of-slots)
+machineCarry free places js (give t) = machineMeet [] t js
+machineCarry free places js (go f x) = going [] (record { f = f; x = x; frames = js })
+machineCarry free places js (push f x j) =
+    cond (ltb (length js) places) (going [] (record { f = f; x = x; frames = j ∷ js })) (stop out-of-places)
 
-unfoldable pub step : ℕ → ℕ → State → Turn
-step free places s = carry free places (s .frames) (rule (s .f) (s .x))
+unfoldable pub machineStep : ℕ → ℕ → MachineState → MachineTurn
+machineStep free places s = machineCarry free places (s .frames) (treeRule (s .f) (s .x))
 
 -- done, with the tree reached; or stopped, with the f and x still to be applied and the frames, oldest first
 pub data Ending : Type 0 where
   ended : Tree → Ending
-  stopped : Stop → Tree → Tree → List Frame → Ending
+  stopped : Stop → Tree → Tree → List TreeFrame → Ending
 
 -- the steps are the rules used; the nodes made stand in the order of making
 pub record Outcome : Type 0 where
@@ -65,23 +65,23 @@ pub record Outcome : Type 0 where
   pub steps : ℕ
   pub made : List Tree
 
-abbrev pub halted : Stop → State → Outcome
+abbrev pub halted : Stop → MachineState → Outcome
 halted n s = record { ending = stopped n (s .f) (s .x) (reverse (s .frames)); steps = 0; made = [] }
 
-abbrev pub finished : List Tree → Tree → Outcome
-finished made t = record { ending = ended t; steps = 1; made = made }
+abbrev pub lastStep : List Tree → Tree → Outcome
+lastStep made t = record { ending = ended t; steps = 1; made = made }
 
 -- a step that made these nodes, and what came after it
 abbrev pub stepped : List Tree → Outcome → Outcome
 stepped made o = record { ending = o .ending; steps = suc (o .steps); made = made ++ o .made }
 
 -- what comes of a state and its step, with `rest` for the rest of the run, on the free slots that are left
-abbrev pub proceed : (ℕ → ℕ → State → Outcome) → ℕ → ℕ → State → Turn → Outcome
+abbrev pub proceed : (ℕ → ℕ → MachineState → Outcome) → ℕ → ℕ → MachineState → MachineTurn → Outcome
 proceed rest free places s (going made s′) = stepped made (rest (free - length made) places s′)
-proceed rest free places s (done made t) = finished made t
+proceed rest free places s (done made t) = lastStep made t
 proceed rest free places s (stop n) = halted n s
 
 -- fuel, free slots, places for frames, and the state; no fuel stops it before no slot and no place do
-unfoldable pub run : ℕ → ℕ → ℕ → State → Outcome
-run zero free places s = halted no-fuel s
-run (suc fuel) free places s = proceed (run fuel) free places s (step free places s)
+unfoldable pub run : ℕ → ℕ → ℕ → MachineState → Outcome
+run zero free places s = halted out-of-fuel s
+run (suc fuel) free places s = proceed (run fuel) free places s (machineStep free places s)

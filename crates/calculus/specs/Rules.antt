@@ -2,32 +2,32 @@
 use Rattle.calculus.specs.Tree.{Tree, leaf, stem, fork}
 
 -- a continuation frame, the paper's job: what is done with the tree that comes next
-pub data Frame : Type 0 where
+pub data TreeFrame : Type 0 where
   -- "then b to x": the tree is the function, and its operand is b applied to x
-  operand : Tree → Tree → Frame
+  operand : Tree → Tree → TreeFrame
   -- "then the result to v": the tree is applied to v
-  argument : Tree → Frame
+  argument : Tree → TreeFrame
   -- "then w to the result": w is applied to the tree
-  function : Tree → Frame
+  function : Tree → TreeFrame
 
-pub data Action : Type 0 where
+pub data TreeAction : Type 0 where
   -- a new node
-  make : Tree → Action
+  make : Tree → TreeAction
   -- a tree that is there already
-  give : Tree → Action
+  give : Tree → TreeAction
   -- an application
-  go : Tree → Tree → Action
+  go : Tree → Tree → TreeAction
   -- an application, while a frame waits
-  push : Tree → Tree → Frame → Action
+  push : Tree → Tree → TreeFrame → TreeAction
 
-unfoldable pub rule : Tree → Tree → Action
+unfoldable pub treeRule : Tree → Tree → TreeAction
 -- 1 to 3
-rule leaf x = make (stem x)
-rule (stem a) x = make (fork a x)
-rule (fork leaf a) x = give a
+treeRule leaf x = make (stem x)
+treeRule (stem a) x = make (fork a x)
+treeRule (fork leaf a) x = give a
 -- 4
-rule (fork (stem a) b) x = push a x (operand b x)
+treeRule (fork (stem a) b) x = push a x (operand b x)
 -- 5 to 7
-rule (fork (fork a b) c) leaf = give a
-rule (fork (fork a b) c) (stem u) = go b u
-rule (fork (fork a b) c) (fork u v) = push c u (argument v)
+treeRule (fork (fork a b) c) leaf = give a
+treeRule (fork (fork a b) c) (stem u) = go b u
+treeRule (fork (fork a b) c) (fork u v) = push c u (argument v)

@@ -2,7 +2,7 @@
 ghost use Prim.Native.Nat.{_≤_};
 use std::num::wrapping_add_usize;
 
-// The number at a place of the input; behind its end, 0.
+// The number at a place of the input; after its end, 0.
 pub fn number(s: &[u8], at: usize) -> u32 {
     (wire::u32_at(s, at).or_zero() % 4294967296) as u32
 }

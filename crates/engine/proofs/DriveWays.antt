@@ -5,14 +5,14 @@ use mathlib.Core.List.{List}
 use native.Mathlib.Omega.{arith}
 use native.Mathlib.Numerals.{add-one, sub-one}
 use lib.ListN.{length}
-use Rattle.engine.specs.declared.fuel.Fuel.{Fuel}
-use Rattle.engine.specs.declared.step.State.{State}
-use Rattle.engine.specs.declared.step.Turn.{Turn}
-use Rattle.engine.specs.declared.step.Status.{Status}
-use Rattle.engine.specs.declared.step.Status.the-variants.{Going, Done, NoSlot, NoPlace}
+use Rattle.fuel.specs.declared.Fuel.{Fuel}
+use Rattle.stepping.specs.declared.State.{State}
+use Rattle.stepping.specs.declared.Turn.{Turn}
+use Rattle.stepping.specs.declared.Status.{Status}
+use Rattle.stepping.specs.declared.Status.the-variants.{Going, Done, OutOfSlots, OutOfPlaces}
 use Rattle.engine.specs.declared.RunAnswer.{RunAnswer}
-use Rattle.engine.specs.Step.{at, step}
-use Rattle.engine.specs.Ready.{Ready, Waits}
+use Rattle.stepping.specs.Step.{at, step}
+use Rattle.stepping.specs.Ready.{Runnable, Waits}
 use Rattle.engine.specs.Run.{ran, finished, stopped, resumeAs, resume, drive}
 
 -- the fuel is spent
@@ -42,16 +42,16 @@ module _ (w j : List ℕ) (s : State) (w′ j′ : List ℕ) (t : Turn) (n k : �
     pub drive-done : {m : ℕ} → t .status ≡ Done → m ≡ k + 1 → r ≡ finished (t .state) m → ran w′ j′ r ≡ drive n k w j s
     drive-done h em er = (rw (er, em, add-one)) ∙ turned Done h
 
-    pub drive-no-slot : t .status ≡ NoSlot → r ≡ stopped 32 s k → ran w′ j′ r ≡ drive n k w j s
-    drive-no-slot h er = (rw er) ∙ turned NoSlot h
+    pub drive-no-slot : t .status ≡ OutOfSlots → r ≡ stopped 32 s k → ran w′ j′ r ≡ drive n k w j s
+    drive-no-slot h er = (rw er) ∙ turned OutOfSlots h
 
-    pub drive-no-place : t .status ≡ NoPlace → r ≡ stopped 33 s k → ran w′ j′ r ≡ drive n k w j s
-    drive-no-place h er = (rw er) ∙ turned NoPlace h
+    pub drive-no-place : t .status ≡ OutOfPlaces → r ≡ stopped 33 s k → ran w′ j′ r ≡ drive n k w j s
+    drive-no-place h er = (rw er) ∙ turned OutOfPlaces h
 
 -- what the loop keeps: the rest of the run from here is the whole run, and the next step may be taken
 pub record Driven (w₀ j₀ : List ℕ) (s₀ : State) (fuel : Fuel) (w j : List ℕ) (s : State) (rest : Fuel) : Type 0 where
   pub same : drive (rest .left) (rest .spent) w j s ≡ drive (fuel .left) (fuel .spent) w₀ j₀ s₀
-  pub ready : Ready w s
+  pub ready : Runnable w s
   pub waits : Waits j (s .used) (s .waiting)
   pub sum : rest .left + rest .spent ≡ fuel .left + fuel .spent
   pub words-long : length w ≡ length w₀

@@ -4,7 +4,7 @@ use lib.IntN.{ℤ, pos}
 use Rattle.engine.specs.declared.RunAnswer.{RunAnswer}
 use Rattle.engine.specs.declared.RunAnswer.the-variants.{Refused, Done, Stopped}
 
-pub record Numbers : Type 0 where
+pub record RunNumbers : Type 0 where
   pub number : ℕ
   pub slot : ℤ
   pub f : ℤ
@@ -14,9 +14,9 @@ pub record Numbers : Type 0 where
   pub waiting : ℕ
 
 -- numbers not named are 0; `slot` is the result's, f and x are those still to be applied
-abbrev pub numbers : RunAnswer → Numbers
-numbers (Refused n) = record { number = n; slot = pos 0; f = pos 0; x = pos 0; steps = 0; used = 0; waiting = 0 }
-numbers (Done slot steps used) =
+abbrev pub runNumbers : RunAnswer → RunNumbers
+runNumbers (Refused n) = record { number = n; slot = pos 0; f = pos 0; x = pos 0; steps = 0; used = 0; waiting = 0 }
+runNumbers (Done slot steps used) =
     record { number = 0; slot = slot; f = pos 0; x = pos 0; steps = steps; used = used; waiting = 0 }
-numbers (Stopped n f x steps used waiting) =
+runNumbers (Stopped n f x steps used waiting) =
     record { number = n; slot = pos 0; f = f; x = x; steps = steps; used = used; waiting = waiting }

@@ -7,8 +7,8 @@ use lib.IntN.{ℤ, pos, negsuc}
 use Rattle.engine.specs.declared.RunAnswer.the-variants.{Done, Stopped}
 use Rattle.engine.specs.declared.From.the-variants.{Stop}
 use Rattle.engine.specs.Run.{runFrom}
-use Rattle.engine.specs.Answer.{Numbers}
-use Rattle.engine.specs.Cases.{table, other, Seen, seen, says, answerOf}
+use Rattle.engine.specs.Answer.{RunNumbers}
+use Rattle.engine.specs.Cases.{table, other, RunSeen, seen, says, runAnswerOf}
 
 -- what is asked, of which table and how many used slots, with which words after the table's own, and which frame table;
 -- what is left, and the answer
@@ -25,19 +25,19 @@ pub record CarryCase : Type 0 where
   pub jobs : List ℕ
   pub words : List ℕ
   pub frames : List ℕ
-  pub answer : Numbers
+  pub answer : RunNumbers
 
-abbrev pub carryGiven : CarryCase → Seen
+abbrev pub carryGiven : CarryCase → RunSeen
 carryGiven c =
     seen
     (runFrom (Stop (c .waiting) (c .steps)) (c .of (c .rest)) (c .base) (c .f) (c .x) (c .used) (c .fuel) (c .jobs))
 
-abbrev pub carryWanted : CarryCase → Seen
+abbrev pub carryWanted : CarryCase → RunSeen
 carryWanted c = record { words = c .of (c .words); frames = c .frames; answer = c .answer }
 
 -- a carry-on at base 2: table, used, f, x, waiting, steps, fuel; the other words and the frame table, what they become,
 -- and the answer
-abbrev pub carries : (List ℕ → List ℕ) → ℕ → ℕ → ℕ → ℕ → ℕ → ℕ → List ℕ → List ℕ → List ℕ → List ℕ → Numbers → CarryCase
+abbrev pub carries : (List ℕ → List ℕ) → ℕ → ℕ → ℕ → ℕ → ℕ → ℕ → List ℕ → List ℕ → List ℕ → List ℕ → RunNumbers → CarryCase
 carries of used f x waiting steps fuel rest jobs words frames answer =
     record {
       of = of;
@@ -133,6 +133,6 @@ CarryCasesHold = map carryGiven carryCases ≡ map carryWanted carryCases
 abbrev pub CarryAnswersHold : Type 0
 CarryAnswersHold =
     -- D to D after stop 32 with one more slot: stop 32, f is stem L and x is D, 11 steps, 10 used slots, 2 jobs
-    (answerOf (runFrom (Stop 2 7) (table (inSeven (replicate 2 9))) (pos 2) (pos 0) (pos 5) 9 93 (3 ∷ 5 ∷ 0 ∷ 3 ∷ 8 ∷ 0 ∷ [])) ≡ Stopped 32 (pos 1) (pos 5) 11 10 2) ×
+    (runAnswerOf (runFrom (Stop 2 7) (table (inSeven (replicate 2 9))) (pos 2) (pos 0) (pos 5) 9 93 (3 ∷ 5 ∷ 0 ∷ 3 ∷ 8 ∷ 0 ∷ [])) ≡ Stopped 32 (pos 1) (pos 5) 11 10 2) ×
     -- a job of each tag: the last slot made, 25 steps, 9 used slots
-    (answerOf (runFrom (Stop 3 20) (other (replicate 8 9)) (pos 2) (pos 1) (pos 2) 5 40 threeWait) ≡ Done (pos 8) 25 9)
+    (runAnswerOf (runFrom (Stop 3 20) (other (replicate 8 9)) (pos 2) (pos 1) (pos 2) 5 40 threeWait) ≡ Done (pos 8) 25 9)

@@ -8,7 +8,7 @@ use Rattle.engine.specs.declared.RunAnswer.{RunAnswer}
 use Rattle.engine.specs.declared.RunAnswer.the-variants.{Done, Stopped}
 use Rattle.engine.specs.declared.From.the-variants.{Scratch}
 use Rattle.engine.specs.Run.{Ran, ran, runFrom}
-use Rattle.engine.specs.Answer.{Numbers, numbers}
+use Rattle.engine.specs.Answer.{RunNumbers, runNumbers}
 
 -- two words of the receiver's, then the slots of L, stem L, stem (stem L), I, stem I and D, then free words
 abbrev pub table : List ℕ → List ℕ
@@ -24,7 +24,7 @@ alone free = 0 ∷ 0 ∷ free
 
 -- what is asked, of which table and how many used slots, with 9 in each free word and 8 in each word of the frame table;
 -- what is left, and the answer
-pub record Case : Type 0 where
+pub record RunCase : Type 0 where
   pub of : List ℕ → List ℕ
   pub used : ℕ
   pub base : ℤ
@@ -35,25 +35,25 @@ pub record Case : Type 0 where
   pub jobs : ℕ
   pub words : List ℕ
   pub frames : List ℕ
-  pub answer : Numbers
+  pub answer : RunNumbers
 
-pub record Seen : Type 0 where
+pub record RunSeen : Type 0 where
   pub words : List ℕ
   pub frames : List ℕ
-  pub answer : Numbers
+  pub answer : RunNumbers
 
-abbrev pub seen : Ran → Seen
-seen (ran w j a) = record { words = w; frames = j; answer = numbers a }
+abbrev pub seen : Ran → RunSeen
+seen (ran w j a) = record { words = w; frames = j; answer = runNumbers a }
 
-abbrev pub given : Case → Seen
-given c =
+abbrev pub runGiven : RunCase → RunSeen
+runGiven c =
     seen (runFrom Scratch (c .of (replicate (c .free) 9)) (c .base) (c .f) (c .x) (c .used) (c .fuel) (replicate (c .jobs) 8))
 
-abbrev pub wanted : Case → Seen
-wanted c = record { words = c .of (c .words); frames = c .frames; answer = c .answer }
+abbrev pub runWanted : RunCase → RunSeen
+runWanted c = record { words = c .of (c .words); frames = c .frames; answer = c .answer }
 
 -- number, result, f, x, steps, used, waiting
-abbrev pub says : ℕ → ℕ → ℕ → ℕ → ℕ → ℕ → ℕ → Numbers
+abbrev pub says : ℕ → ℕ → ℕ → ℕ → ℕ → ℕ → ℕ → RunNumbers
 says number slot f x steps used waiting =
     record {
       number = number;
@@ -66,7 +66,7 @@ says number slot f x steps used waiting =
     }
 
 -- a run of f on x at a base: fuel, free words, words of the frame table; then what they become, and the answer
-abbrev pub runsAt : ℕ → (List ℕ → List ℕ) → ℕ → ℕ → ℕ → ℕ → ℕ → ℕ → List ℕ → List ℕ → Numbers → Case
+abbrev pub runsAt : ℕ → (List ℕ → List ℕ) → ℕ → ℕ → ℕ → ℕ → ℕ → ℕ → List ℕ → List ℕ → RunNumbers → RunCase
 runsAt base of used f x fuel free jobs words frames answer =
     record {
       of = of;
@@ -83,15 +83,15 @@ runsAt base of used f x fuel free jobs words frames answer =
     }
 
 -- after the two words
-abbrev pub runsOf : (List ℕ → List ℕ) → ℕ → ℕ → ℕ → ℕ → ℕ → ℕ → List ℕ → List ℕ → Numbers → Case
+abbrev pub runsOf : (List ℕ → List ℕ) → ℕ → ℕ → ℕ → ℕ → ℕ → ℕ → List ℕ → List ℕ → RunNumbers → RunCase
 runsOf = runsAt 2
 
-abbrev pub runs : ℕ → ℕ → ℕ → ℕ → ℕ → List ℕ → List ℕ → Numbers → Case
+abbrev pub runs : ℕ → ℕ → ℕ → ℕ → ℕ → List ℕ → List ℕ → RunNumbers → RunCase
 runs = runsOf table 6
 
 -- a call that is refused, on a table with one free slot
-abbrev pub refuses : ℤ → ℤ → ℤ → ℕ → Case
-refuses base f x number =
+abbrev pub runRefuses : ℤ → ℤ → ℤ → ℕ → RunCase
+runRefuses base f x number =
     record {
       of = table;
       used = 6;
@@ -106,8 +106,8 @@ refuses base f x number =
       answer = says number 0 0 0 0 0 0;
     }
 
-abbrev pub cases : List Case
-cases =
+abbrev pub runCases : List RunCase
+runCases =
     -- L to L, I to L
     runs 0 0 100 3 2 (1 ∷ 0 ∷ 9 ∷ []) (replicate 2 0) (says 0 6 0 0 1 7 0)
     ∷ runs 3 0 100 9 3 (1 ∷ 1 ∷ 1 ∷ 0 ∷ replicate 5 9) (replicate 3 0) (says 0 0 0 0 4 8 0)
@@ -118,12 +118,12 @@ cases =
     -- fuel 0
     ∷ runs 5 5 0 0 1 [] (0 ∷ []) (says 31 0 5 5 0 6 0)
     -- slot -1, slot equal to the used count
-    ∷ refuses (pos 2) (negsuc 0) (pos 0) 23
-    ∷ refuses (pos 2) (pos 0) (pos 6) 23
+    ∷ runRefuses (pos 2) (negsuc 0) (pos 0) 23
+    ∷ runRefuses (pos 2) (pos 0) (pos 6) 23
     -- base -1, base equal to the length, and base 0, which is no fault of its own: the receiver's words are no leaf
-    ∷ refuses (negsuc 0) (pos 0) (pos 0) 21
-    ∷ refuses (pos 16) (pos 0) (pos 0) 21
-    ∷ refuses (pos 0) (pos 0) (pos 0) 24
+    ∷ runRefuses (negsuc 0) (pos 0) (pos 0) 21
+    ∷ runRefuses (pos 16) (pos 0) (pos 0) 21
+    ∷ runRefuses (pos 0) (pos 0) (pos 0) 24
     -- no fuel, no slot and no place at once
     ∷ runs 0 0 0 0 0 [] [] (says 31 0 0 0 0 6 0)
     ∷ runs 5 5 0 0 0 [] [] (says 31 0 5 5 0 6 0)
@@ -138,16 +138,16 @@ cases =
     ∷ runsAt 0 alone 1 0 0 100 2 0 (1 ∷ 0 ∷ []) [] (says 0 1 0 0 1 2 0)
     ∷ []
 
-abbrev pub CasesHold : Type 0
-CasesHold = map given cases ≡ map wanted cases
+abbrev pub RunCasesHold : Type 0
+RunCasesHold = map runGiven runCases ≡ map runWanted runCases
 
 -- two of them by the answer itself: a stop and a done run, no two numbers of it alike
-abbrev pub answerOf : Ran → RunAnswer
-answerOf (ran w j a) = a
+abbrev pub runAnswerOf : Ran → RunAnswer
+runAnswerOf (ran w j a) = a
 
 abbrev pub AnswersHold : Type 0
 AnswersHold =
     -- D to D with 3 free slots: stop 32, f is L and x is D, 7 steps, 9 used slots, 2 jobs
-    (answerOf (runFrom Scratch (table (replicate 6 9)) (pos 2) (pos 5) (pos 5) 6 100 (replicate 6 8)) ≡ Stopped 32 (pos 0) (pos 5) 7 9 2) ×
+    (runAnswerOf (runFrom Scratch (table (replicate 6 9)) (pos 2) (pos 5) (pos 5) 6 100 (replicate 6 8)) ≡ Stopped 32 (pos 0) (pos 5) 7 9 2) ×
     -- L to L: the new slot, 1 step, 7 used slots
-    (answerOf (runFrom Scratch (table (replicate 3 9)) (pos 2) (pos 0) (pos 0) 6 100 (replicate 2 8)) ≡ Done (pos 6) 1 7)
+    (runAnswerOf (runFrom Scratch (table (replicate 3 9)) (pos 2) (pos 0) (pos 0) 6 100 (replicate 2 8)) ≡ Done (pos 6) 1 7)

@@ -1,6 +1,4 @@
-pub mod Rules
-pub mod Step
-pub mod Ready
+pub mod Admission
 pub mod Run
 pub mod Answer
 pub mod Named

@@ -13,13 +13,13 @@ use Rattle.engine.specs.Run.{ran, runFrom}
 abbrev pub UsedSlot : ℕ → ℤ → Type 0
 UsedSlot used z = (i : ℕ) × (z ≡ pos i) × (i < used)
 
-abbrev pub Named : RunAnswer → Type 0
-Named (Refused n) = Unit {0}
-Named (Done slot steps used) = (used ≤ maxSlots) × UsedSlot used slot
-Named (Stopped n f x steps used waiting) = (used ≤ maxSlots) × UsedSlot used f × UsedSlot used x
+abbrev pub RunSlotsUsed : RunAnswer → Type 0
+RunSlotsUsed (Refused n) = Unit {0}
+RunSlotsUsed (Done slot steps used) = (used ≤ maxSlots) × UsedSlot used slot
+RunSlotsUsed (Stopped n f x steps used waiting) = (used ≤ maxSlots) × UsedSlot used f × UsedSlot used x
 
 -- Every slot that a run or a carry-on answers is a used one, so that it may be handed back as f or x.
 abbrev pub SlotsNamed : Type 0
 SlotsNamed =
     (from : From) (w v j k : List ℕ) (base f x : ℤ) (used fuel : ℕ) (a : RunAnswer) →
-    runFrom from w base f x used fuel j ≡ ran v k a → Named a
+    runFrom from w base f x used fuel j ≡ ran v k a → RunSlotsUsed a

@@ -3,23 +3,19 @@
 ghost use mathlib.Core.Path.{_≡_};
 ghost use Prim.Native.Nat.{_+_, _<_, _^_};
 ghost use Rattle.table.specs.Limits.{maxSlots};
-ghost use Rattle.engine.specs.Ready.{Ready, Waits};
+ghost use Rattle.stepping.specs.Ready.{Runnable, Waits};
 ghost use Rattle.engine.specs.declared.From.the-variants.{Scratch, Stop};
-ghost use Rattle.engine.specs.Run.{ran, finished, stopped, drive, admit, stepsOf, begun, begin, runTail, runFrom};
-use crate::fuel::Fuel;
-use crate::step::State;
-use crate::step::Status;
-use crate::step::step;
-use table::frames::clear;
-use table::frames::frames_sound;
-use table::slots::Place;
+ghost use Rattle.engine.specs.Run.{ran, finished, stopped, drive, stepsOf, waitingOf, jobsFrom, runTail, runFrom};
+use crate::admission::refusal;
+use frames::clear;
+use fuel::Fuel;
+use stepping::State;
+use stepping::Status;
+use stepping::step;
+use table::base::Base;
 use table::slots::Slot;
-use table::slots::room;
-use table::slots::sound;
 
-mod fuel;
-mod rules;
-mod step;
+pub mod admission;
 
 // What a run answers; specs/Answer.antt gives the paper's numbers for each case.
 pub enum RunAnswer {
@@ -60,12 +56,6 @@ impl From {
     }
 }
 
-// Whether a run is let start, and from where.
-pub enum Admission {
-    Refused(u32),
-    Start(State),
-}
-
 // The answer of a run that is done; f of its last state is the result.
 fn finished(s: State, steps: u32) -> RunAnswer
     requires { ⌜ s .f .0 < maxSlots ⌝ }
@@ -98,7 +88,7 @@ fn stopped(number: u32, s: State, steps: u32) -> RunAnswer
 
 // Steps from a state on until the run is done or stopped; the fuel has the steps so far.
 fn drive(words: &mut [u32], jobs: &mut [u32], start: State, fuel: Fuel) -> RunAnswer
-    requires { ⌜ Ready (now words) start × Waits (now jobs) (start .used) (start .waiting)
+    requires { ⌜ Runnable (now words) start × Waits (now jobs) (start .used) (start .waiting)
         × (fuel .left + fuel .spent < 2 ^ 32) ⌝ }
     ensures { λ r. ⌜ ran (now (words .exit)) (now (jobs .exit)) r
         ≡ drive (fuel .left) (fuel .spent) (now (words .entry)) (now (jobs .entry)) start ⌝ }
@@ -120,10 +110,10 @@ fn drive(words: &mut [u32], jobs: &mut [u32], start: State, fuel: Fuel) -> RunAn
                 let last = rest.spend();
                 return finished(next, last.spent);
             }
-            Status::NoSlot => {
+            Status::OutOfSlots => {
                 return stopped(32, s, rest.spent);
             }
-            Status::NoPlace => {
+            Status::OutOfPlaces => {
                 return stopped(33, s, rest.spent);
             }
         }
@@ -131,62 +121,16 @@ fn drive(words: &mut [u32], jobs: &mut [u32], start: State, fuel: Fuel) -> RunAn
     stopped(31, s, rest.spent)
 }
 
-// 21, 23 and 24, in that order, or the state that a run starts from.
-pub fn admit(words: &[u32], f: i32, x: i32, used: u32) -> Admission
-    ensures { λ r. ⌜ r ≡ admit (now (words .entry)) f x used ⌝ }
-{
-    if used == 0 {
-        return Admission::Refused(21);
-    }
-    if room(words) < used {
-        return Admission::Refused(21);
-    }
-    let at_f = Slot::place(f, used);
-    let at_x = Slot::place(x, used);
-    let Place::At(f) = at_f else {
-        return Admission::Refused(23);
-    };
-    let Place::At(x) = at_x else {
-        return Admission::Refused(23);
-    };
-    let good = sound(words, used);
-    if !good {
-        return Admission::Refused(24);
-    }
-    Admission::Start(State {
-        f,
-        x,
-        used,
-        waiting: 0,
-    })
-}
-
-// How the loop starts: a run from scratch has its frame table zeroed; one from a stop may be refused, by 24 or 40, in that order.
-fn begin(from: From, start: State, fuel: u32, jobs: &mut [u32]) -> Admission
-    ensures { λ r. ⌜ begun (now (jobs .exit)) r ≡ begin from start fuel (now (jobs .entry)) ⌝ }
+// How a run begins: one from scratch has its frame table zeroed. Answers how many frames wait.
+fn begin(from: From, jobs: &mut [u32]) -> u32
+    ensures { λ r. ⌜ (now (jobs .exit) ≡ jobsFrom from (now (jobs .entry))) × (r ≡ waitingOf from) ⌝ }
 {
     match from {
         From::Scratch => {
             clear(jobs);
-            Admission::Start(start)
+            0
         }
-        From::Stop { waiting, steps } => {
-            let good = frames_sound(jobs, start.used, waiting);
-            if !good {
-                return Admission::Refused(24);
-            }
-            if Fuel::MOST - steps < fuel {
-                return Admission::Refused(40);
-            }
-            let f = start.f;
-            let x = start.x;
-            Admission::Start(State {
-                f,
-                x,
-                used: start.used,
-                waiting,
-            })
-        }
+        From::Stop { waiting, .. } => waiting,
     }
 }
 
@@ -203,17 +147,18 @@ fn run_tail(
     ensures { λ r. ⌜ ran (now (words .exit)) (now (jobs .exit)) r
         ≡ runTail from (now (words .entry)) f x used fuel (now (jobs .entry)) ⌝ }
 {
-    let admission = admit(words, f, x, used);
-    match admission {
-        Admission::Refused(number) => RunAnswer::Refused(number),
-        Admission::Start(first) => {
-            let ready = begin(from, first, fuel, jobs);
-            match ready {
-                Admission::Refused(number) => RunAnswer::Refused(number),
-                Admission::Start(start) => drive(words, jobs, start, Fuel::new(fuel, from.steps())),
-            }
-        }
+    let number = refusal(from, words, f, x, used, fuel, jobs);
+    if number != 0 {
+        return RunAnswer::Refused(number);
     }
+    let waiting = begin(from, jobs);
+    let start = State {
+        f: Slot::named(f),
+        x: Slot::named(x),
+        used,
+        waiting,
+    };
+    drive(words, jobs, start, Fuel::new(fuel, from.steps()))
 }
 
 // Applies slot f to slot x of the table that starts at word base, of which `used` slots are used: from scratch, or from a stop.
@@ -230,14 +175,10 @@ pub fn run_from(
     ensures { λ r. ⌜ ran (now (words .exit)) (now (jobs .exit)) r
         ≡ runFrom from (now (words .entry)) base f x used fuel (now (jobs .entry)) ⌝ }
 {
-    if base < 0 {
-        return RunAnswer::Refused(21);
+    match Base::of(base, words.len()) {
+        Base::Outside => RunAnswer::Refused(21),
+        Base::At(at) => run_tail(from, &mut words[at..], f, x, used, fuel, jobs),
     }
-    let at = base as usize;
-    if words.len() < at {
-        return RunAnswer::Refused(21);
-    }
-    run_tail(from, &mut words[at..], f, x, used, fuel, jobs)
 }
 
 // Applies slot f to slot x.

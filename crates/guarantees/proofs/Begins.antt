@@ -11,27 +11,27 @@ use lib.ListN.{length, take, drop, take-append-drop}
 use lib.Seq.{drop-at, length-take-le}
 use lib.IntN.{ℤ, pos, negsuc}
 use Rattle.calculus.specs.Tree.{Tree}
-use Rattle.calculus.specs.Rules.{Frame}
+use Rattle.calculus.specs.Rules.{TreeFrame}
 use Rattle.calculus.specs.Machine.{Outcome}
 use Rattle.calculus.specs.Machine as machine
 use Rattle.table.specs.Slots.{slot, room}
 use Rattle.table.specs.Sound.{sound, SoundSlots}
-use Rattle.table.specs.Frames.{frameRoom}
+use Rattle.frames.specs.Frames.{frameRoom}
 use Rattle.table.specs.Holds.{Holds}
 use Rattle.table.proofs.SoundLaws.{each-sound, sound-breaks, slots-sound as slots-sound-test}
 use Rattle.table.proofs.HoldsLaws.{sound-holds}
-use Rattle.table.proofs.SoundFrames.{one-list}
+use Rattle.frames.proofs.SoundFrames.{one-list}
 use Rattle.engine.specs.declared.RunAnswer.{RunAnswer}
 use Rattle.engine.specs.declared.RunAnswer.the-variants.{Refused}
-use Rattle.engine.specs.declared.step.State.{State}
-use Rattle.engine.specs.Run.{Ran, ran, drive, behind, runFrom}
+use Rattle.stepping.specs.declared.State.{State}
+use Rattle.engine.specs.Run.{Ran, ran, drive, jobsFrom, stateFrom, ranWith, runFrom}
 use Rattle.engine.specs.declared.From.{From}
 use Rattle.engine.specs.declared.From.the-variants.{Scratch, Stop}
-use Rattle.engine.specs.Answer.{numbers}
+use Rattle.engine.specs.Answer.{runNumbers}
 use Rattle.guarantees.specs.Agrees.{Agrees}
 use Rattle.guarantees.specs.Run.{RunCall, stepsBefore, TooMany, Waiting, later, SimulatesFrom, started as let-start}
 use Rattle.guarantees.specs.Run.{OutOfTable, base-negative, base-past, above-room, Misplaced, negative, not-used, Damaged, JobsDamaged}
-use Rattle.guarantees.proofs.Calls.{jobs-are-sound, tableFrom, stateFrom, run-behind}
+use Rattle.guarantees.proofs.Calls.{jobs-are-sound, run-behind}
 use Rattle.guarantees.proofs.Simulates.{Sim}
 use Rattle.guarantees.proofs.RunSimulates.{starts, first-stands, run-simulates}
 use Rattle.guarantees.proofs.Verdict.{out, misplaced, damaged, at-last, started, Judged, verdict}
@@ -50,7 +50,7 @@ pub record Begins (from : From) (w j : List ℕ) (base f x : ℤ) (used fuel : �
   pub x-is : x ≡ pos x-slot
   pub x-tree : Tree
   pub x-holds : Holds (drop at w) used x-slot x-tree
-  pub frames : List Frame
+  pub frames : List TreeFrame
   pub waits : Waiting from (drop at w) used j frames
   pub few : TooMany from fuel → ⊥
 
@@ -88,7 +88,7 @@ module _ (w : List ℕ) (b used : ℕ) (out : OutOfTable w (pos b) used → ⊥)
 
 -- the frames that wait
 waiting-frames : (from : From) (w j : List ℕ) (used : ℕ) → SoundSlots w used → (JobsDamaged from used j → ⊥)
-    → (frames : List Frame) × Waiting from w used j frames
+    → (frames : List TreeFrame) × Waiting from w used j frames
 waiting-frames Scratch w j used good h = ([], refl)
 waiting-frames (Stop waiting steps) w j used good h =
     let jobs = jobs-are-sound used j waiting h in
@@ -135,7 +135,7 @@ module _ {from : From} {w j : List ℕ} {base f x : ℤ} {used fuel : ℕ} (s : 
   -- so does any call that simulates it
   pub comes : (call : RunCall) → SimulatesFrom from call
       → (v : List ℕ) × (k : List ℕ) × (a : RunAnswer) × (call w base f x used fuel j ≡ ran (take (s .at) w ++ v) k a)
-      × Agrees (drop (s .at) w) used j v k (numbers a) outcome
+      × Agrees (drop (s .at) w) used j v k (runNumbers a) outcome
   comes call simulates =
       let b = s .at in
       let (v, k, a, e, agrees)
@@ -149,35 +149,35 @@ module _ {from : From} {w j : List ℕ} {base f x : ℤ} {used fuel : ℕ} (s : 
   first = stateFrom from (slot (s .f-slot)) (slot (s .x-slot)) used
 
   pub drives : (m : ℕ) → (TooMany from m → ⊥)
-      → runFrom from w base f x used m j ≡ behind (take (s .at) w) (drive m (stepsBefore from) (drop (s .at) w) (tableFrom from j) first)
+      → runFrom from w base f x used m j ≡ ranWith (take (s .at) w) (drive m (stepsBefore from) (drop (s .at) w) (jobsFrom from j) first)
   drives m few =
       let b = s .at in
       let good = slots-sound-test (drop b w) used .1 (s .slots) in
       let e
       = run-behind from (take b w) (drop b w) j (pos (s .f-slot)) (pos (s .x-slot)) used m
-      ∙ ap (behind (take b w))
+      ∙ ap (ranWith (take b w))
       (starts from (drop b w) j used (s .f-slot) (s .x-slot) m (s .f-tree) (s .x-tree) (s .frames) good (s .f-holds) (s .x-holds)
       (s .waits) few)
       in
       rw (s .base-is, s .f-is, s .x-is) (rw (length-take-le b w (s .inside), take-append-drop b w) at e)
 
-  pub stands : Sim (drop (s .at) w) (tableFrom from j) first
+  pub stands : Sim (drop (s .at) w) (jobsFrom from j) first
       (record { f = s .f-tree; x = s .x-tree; frames = reverse (s .frames) })
   stands =
       first-stands (drop (s .at) w) j used (s .f-slot) (s .x-slot) (s .f-tree) (s .x-tree) (s .frames)
       (slots-sound-test (drop (s .at) w) used .1 (s .slots)) (s .f-holds) (s .x-holds) from (s .waits)
 
 -- a run that was let start
-module _ (from : From) (w v j k : List ℕ) (base f x : ℤ) (used fuel : ℕ) (a : RunAnswer) (goes : let-start (numbers a .number) ≡ true) where
+module _ (from : From) (w v j k : List ℕ) (base f x : ℤ) (used fuel : ℕ) (a : RunAnswer) (goes : let-start (runNumbers a .number) ≡ true) where
   abbrev Begun : Type 0
   Begun =
-      (s : Begins from w j base f x used fuel) × Agrees (drop (s .at) w) used j (drop (s .at) v) k (numbers a) (outcome s)
+      (s : Begins from w j base f x used fuel) × Agrees (drop (s .at) w) used j (drop (s .at) v) k (runNumbers a) (outcome s)
 
   -- is no refusal
   not-refused : (n : ℕ) → let-start n ≡ false → ran w j (Refused n) ≡ ran v k a → Begun
   not-refused n z e =
       let y : Refused n ≡ a = cc in
-      absurd (false≢true (sym z ∙ ap (λ (x : RunAnswer). let-start (numbers x .number)) y ∙ goes))
+      absurd (false≢true (sym z ∙ ap (λ (x : RunAnswer). let-start (runNumbers x .number)) y ∙ goes))
 
   judged : (r : Ran) → Judged from w j base f x used fuel r → runFrom from w base f x used fuel j ≡ r → r ≡ ran v k a → Begun
   judged r (out o) q e = not-refused 21 refl e

@@ -7,7 +7,7 @@ use Rattle.calculus.proofs.Stops.{stops-exactly}
 use Rattle.calculus.proofs.Costs.{costs-exactly, one-cost}
 use Rattle.calculus.proofs.DoneByCost.{done-by-cost}
 use Rattle.table.specs.Slots.{room}
-use Rattle.table.proofs.SoundFrames.{one-frame-list}
+use Rattle.frames.proofs.SoundFrames.{one-frame-list}
 use Rattle.engine.specs.Run.{runFrom}
 use Rattle.soundness.proofs.ExportCalls.{only-name, index-tells, only-index}
 use Rattle.soundness.proofs.Meaning as checks

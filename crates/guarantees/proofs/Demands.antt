@@ -6,7 +6,7 @@ use lib.IntN.{ℤ}
 use Rattle.calculus.proofs.Stops.{stop-numbers}
 use Rattle.table.specs.Slots.{room}
 use Rattle.table.proofs.SlotLaws.{room-long, room-is}
-use Rattle.table.proofs.FrameLaws.{job-room-is, job-words}
+use Rattle.frames.proofs.FrameLaws.{job-room-is, job-words}
 use Rattle.engine.specs.Run.{runFrom}
 use Rattle.plain.proofs.PlainIsRun.{plain-is-run}
 use Rattle.soundness.proofs.ExportCalls.{name-by-index, name-refused, name-bytes, name-in-file}
@@ -15,7 +15,7 @@ use Rattle.soundness.proofs.Meaning as checks
 use Rattle.soundness.proofs.Applies.{number-exactly}
 use Rattle.soundness.proofs.FileMeaning.{big-endian}
 use Rattle.soundness.proofs.NodesMeaning.{reads-children}
-use Rattle.loader.specs.Answer.{Numbers}
+use Rattle.loader.specs.Answer.{LoadNumbers}
 use Rattle.guarantees.specs.Session.{Request, Bring, AllAlike}
 use Rattle.guarantees.specs.Load.{Loads}
 use Rattle.guarantees.specs.Demands.{Demand1, Demand2, AllRuns, Demand3}
@@ -79,7 +79,7 @@ demand-2 =
     }
 
 -- the requests start from what the load left
-module _ {file words words′ : List ℕ} {base : ℤ} {exports exports′ : List ℕ} {n : Numbers}
+module _ {file words words′ : List ℕ} {base : ℤ} {exports exports′ : List ℕ} {n : LoadNumbers}
     (l : Loads file words base exports words′ exports′ n) where
   pub goes-on : (requests : List Request) → Bring (l .at) requests →
       AllAlike runFrom (l .at) (room (drop (l .at) words)) (record { words = drop (l .at) words′; used = n .nodes })

@@ -13,12 +13,13 @@ use lib.Dec.{eqb}
 use lib.IntN.{ℤ, pos}
 use Rattle.calculus.specs.Machine as machine
 use Rattle.table.specs.Slots.{room}
-use Rattle.table.specs.Frames.{frameRoom}
-use Rattle.table.proofs.SoundFrames.{standing-sound}
-use Rattle.engine.specs.declared.step.State.{State}
+use Rattle.frames.specs.Frames.{frameRoom}
+use Rattle.frames.proofs.SoundFrames.{standing-sound}
+use Rattle.stepping.specs.declared.State.{State}
 use Rattle.engine.specs.declared.RunAnswer.the-variants.{Refused, Stopped}
-use Rattle.engine.specs.Step.{Stepped, step}
-use Rattle.engine.specs.Run.{Ran, ran, resume, drive, behind, maxSteps, runFrom}
+use Rattle.stepping.specs.Step.{Stepped, step}
+use Rattle.engine.specs.Admission.{maxSteps}
+use Rattle.engine.specs.Run.{Ran, ran, resume, drive, ranWith, runFrom}
 use Rattle.engine.specs.declared.From.{From}
 use Rattle.engine.specs.declared.From.the-variants.{Scratch, Stop}
 use Rattle.guarantees.specs.Run.{stepsBefore, TooMany, Waiting, RefusedWith, Listed}
@@ -35,7 +36,7 @@ use Rattle.guarantees.proofs.Begins.{Begins, begins, first, drives, sta
 -- ---- the loop
 
 -- the frames of a state that stands for one of the machine's are jobs to carry on with
-sim-waits : (w j : List ℕ) (s : State) (p : machine.State) → Sim w j s p → (k : ℕ)
+sim-waits : (w j : List ℕ) (s : State) (p : machine.MachineState) → Sim w j s p → (k : ℕ)
     → Waiting (Stop (s .waiting) k) w (s .used) j (reverse (p .frames))
 sim-waits w j s p sim k =
     let count = frames-count w (s .used) j (s .waiting) (p .frames) (sim .frames) in
@@ -49,16 +50,16 @@ sim-waits w j s p sim k =
 
 module _ (before : List ℕ) (n : ℕ) where
   abbrev on : Ran → Ran
-  on r = nextPart runFrom (pos (length before)) n (behind before r)
+  on r = nextPart runFrom (pos (length before)) n (ranWith before r)
 
   abbrev Cuts : ℕ → Type 0
   Cuts m =
-      (k : ℕ) (w j : List ℕ) (s : State) (p : machine.State) → Sim w j s p → k + (m + n) ≤ maxSteps
-      → on (drive m k w j s) ≡ behind before (drive (m + n) k w j s)
+      (k : ℕ) (w j : List ℕ) (s : State) (p : machine.MachineState) → Sim w j s p → k + (m + n) ≤ maxSteps
+      → on (drive m k w j s) ≡ ranWith before (drive (m + n) k w j s)
 
   module _ (m : ℕ) (cuts : Cuts m) (k : ℕ) (w j : List ℕ) (s : State) (most : k + (suc m + n) ≤ maxSteps) where
-    resumes : (c : Stepped) (t : machine.Turn) → Turns w j s c t
-        → on (resume (drive m) k s c) ≡ behind before (resume (drive (m + n)) k s c)
+    resumes : (c : Stepped) (t : machine.MachineTurn) → Turns w j s c t
+        → on (resume (drive m) k s c) ≡ ranWith before (resume (drive (m + n)) k s c)
     resumes c t (turns-going {v = v} {k = i} {next = next} {p = q} grown long sim) =
         cuts (suc k) v i next q sim (omega arith)
     resumes c t (turns-done e l h) = refl
@@ -70,12 +71,12 @@ module _ (before : List ℕ) (n : ℕ) where
   drive-cuts zero k w j s p sim l =
       rw (zero-add n)
       (run-behind (Stop (s .waiting) k) before w j (pos (s .f .0)) (pos (s .x .0)) (s .used) n
-      ∙ ap (behind before)
+      ∙ ap (ranWith before)
       (starts (Stop (s .waiting) k) w j (s .used) (s .f .0) (s .x .0) n (p .f) (p .x) (reverse (p .frames)) (sim .slots)
       (sim .f) (sim .x) (sim-waits w j s p sim k) (λ g. omega arith)))
   drive-cuts (suc m) k w j s p sim l =
       rw (suc-add m n)
-      (resumes m (drive-cuts m) k w j s l (step w j s) (machine.step (room w - s .used) (frameRoom j) p) (steps w j s p sim))
+      (resumes m (drive-cuts m) k w j s l (step w j s) (machine.machineStep (room w - s .used) (frameRoom j) p) (steps w j s p sim))
 
 -- ---- one part more
 

@@ -11,30 +11,31 @@ use lib.Dec.{eqb, leb}
 use lib.IntN.{ℤ, pos, negsuc}
 use borrow.Author.Tests.{lt-ltb, le-ltb, eq-eqb, eqb-true, eqb-false, leb-true, leb-false}
 use Rattle.calculus.specs.Tree.{Tree}
-use Rattle.calculus.specs.Rules.{Frame, operand, argument, function}
-use Rattle.table.specs.Frames.{Record, recordAt, frameRoom}
-use Rattle.table.specs.Holds.{Holds, Stands, stands-operand, stands-argument, stands-function, StandFrom, ZeroFrom}
-use Rattle.table.specs.SoundFrames.{SoundJob}
+use Rattle.calculus.specs.Rules.{TreeFrame, operand, argument, function}
+use Rattle.frames.specs.Frames.{Record, jobWordsAt, frameRoom}
+use Rattle.table.specs.Holds.{Holds}
+use Rattle.frames.specs.Stand.{Stands, stands-operand, stands-argument, stands-function, StandFrom, ZeroFrom}
+use Rattle.frames.specs.SoundFrames.{SoundJob}
 use Rattle.table.proofs.Tests.{by-test}
-use Rattle.table.proofs.FrameLaws.{job-room-is}
+use Rattle.frames.proofs.FrameLaws.{job-room-is}
 use Rattle.table.proofs.HoldsLaws.{from-at}
 use Rattle.table.proofs.SoundLaws.{both-true}
-use Rattle.table.proofs.SoundFrames.{stand-sound}
+use Rattle.frames.proofs.SoundFrames.{stand-sound}
 use Rattle.engine.specs.declared.From.{From}
 use Rattle.engine.specs.declared.From.the-variants.{Scratch, Stop}
 use Rattle.guarantees.specs.Run.{Waiting, JobsDamaged, Misplaced, negative, not-used}
 use Rattle.guarantees.proofs.Verdict.{used-placed}
-use Rattle.guarantees.specs.Session.{Found, found, nowhere, andThen, lookUp, jobIn, jobsIn, framesIn, Holding}
+use Rattle.guarantees.specs.Session.{Lookup, found, nowhere, lookupThen, lookUp, jobIn, jobsIn, framesIn, Holding}
 
 -- ---- the frame table without its first place
 
 module _ (t a b : ℕ) (j : List ℕ) where
-  record-first : recordAt (t ∷ a ∷ b ∷ j) 0 ≡ record { tag = t; first = a; second = b }
-  unfolding recordAt
+  record-first : jobWordsAt (t ∷ a ∷ b ∷ j) 0 ≡ record { tag = t; first = a; second = b }
+  unfolding jobWordsAt
   record-first = refl
 
-  record-past : (k : ℕ) → recordAt (t ∷ a ∷ b ∷ j) (suc k) ≡ recordAt j k
-  unfolding recordAt
+  record-past : (k : ℕ) → jobWordsAt (t ∷ a ∷ b ∷ j) (suc k) ≡ jobWordsAt j k
+  unfolding jobWordsAt
   record-past k =
       let e : 3 * suc k ≡ suc (suc (suc (3 * k))) = omega arith in
       let e1 : 3 * suc k + 1 ≡ suc (suc (suc (3 * k + 1))) = omega arith in
@@ -50,7 +51,7 @@ module _ (t a b : ℕ) (j : List ℕ) where
   zero-onto m h (suc (suc zero)) l = absurd (omega arith)
   zero-onto m h (suc (suc (suc i))) l = h i (omega arith)
 
-  stand-onto : (w : List ℕ) (n k : ℕ) (fs : List Frame) → StandFrom w n j k fs → StandFrom w n (t ∷ a ∷ b ∷ j) (suc k) fs
+  stand-onto : (w : List ℕ) (n k : ℕ) (fs : List TreeFrame) → StandFrom w n j k fs → StandFrom w n (t ∷ a ∷ b ∷ j) (suc k) fs
   stand-onto w n k [] h = tt
   stand-onto w n k (f ∷ fs) h = (rw (record-past k) (h .0), stand-onto w n (suc k) fs (h .1))
 
@@ -65,7 +66,7 @@ zero-word x j e h (suc i) l = h i (omega arith)
 
 module _ (w : List ℕ) (n : ℕ) (store : List Tree) (good : Holding w n store) where
   -- a place of the store, and a used slot that holds its tree; or neither
-  pub data PlaceSeen : ℤ → Found Tree → Type 0 where
+  pub data PlaceSeen : ℤ → Lookup Tree → Type 0 where
     held : {i : ℕ} {t : Tree} → Holds w n i t → PlaceSeen (pos i) (found t)
     unplaced : {z : ℤ} → Misplaced n z → PlaceSeen z nowhere
 
@@ -80,26 +81,26 @@ module _ (w : List ℕ) (n : ℕ) (store : List Tree) (good : Holding w n store)
       ]
 
   -- three words, and the frame that they stand for; or no sound job
-  data JobSeen (r : Record) : Found Frame → Type 0 where
-    stands : {f : Frame} → Stands w n r f → JobSeen r (found f)
+  data JobSeen (r : Record) : Lookup TreeFrame → Type 0 where
+    stands : {f : TreeFrame} → Stands w n r f → JobSeen r (found f)
     unsound : (SoundJob n r → ⊥) → JobSeen r nowhere
 
   module _ (t a b : ℕ) where
     abbrev words : Record
     words = record { tag = t; first = a; second = b }
 
-    operand-seen : t ≡ 1 → {p q : Found Tree} → PlaceSeen (pos a) p → PlaceSeen (pos b) q
-        → JobSeen words (andThen p (λ u. andThen q (λ v. found (operand u v))))
+    operand-seen : t ≡ 1 → {p q : Lookup Tree} → PlaceSeen (pos a) p → PlaceSeen (pos b) q
+        → JobSeen words (lookupThen p (λ u. lookupThen q (λ v. found (operand u v))))
     operand-seen e (held h) (held g) =
         stands (stands-operand {a = a} {b = b} (λ i. record { tag = e i; first = a; second = b }) h g)
     operand-seen e (held h) (unplaced m) = unsound (λ s. used-placed refl (s .second e) m)
     operand-seen e (unplaced m) q = unsound (λ s. used-placed refl (s .first) m)
 
-    argument-seen : t ≡ 2 → b ≡ 0 → {p : Found Tree} → PlaceSeen (pos a) p → JobSeen words (andThen p (λ u. found (argument u)))
+    argument-seen : t ≡ 2 → b ≡ 0 → {p : Lookup Tree} → PlaceSeen (pos a) p → JobSeen words (lookupThen p (λ u. found (argument u)))
     argument-seen e z (held h) = stands (stands-argument {a = a} (λ i. record { tag = e i; first = a; second = z i }) h)
     argument-seen e z (unplaced m) = unsound (λ s. used-placed refl (s .first) m)
 
-    function-seen : t ≡ 3 → b ≡ 0 → {p : Found Tree} → PlaceSeen (pos a) p → JobSeen words (andThen p (λ u. found (function u)))
+    function-seen : t ≡ 3 → b ≡ 0 → {p : Lookup Tree} → PlaceSeen (pos a) p → JobSeen words (lookupThen p (λ u. found (function u)))
     function-seen e z (held h) = stands (stands-function {a = a} (λ i. record { tag = e i; first = a; second = z i }) h)
     function-seen e z (unplaced m) = unsound (λ s. used-placed refl (s .first) m)
 
@@ -129,12 +130,12 @@ module _ (w : List ℕ) (n : ℕ) (store : List Tree) (good : Holding w n store)
         (λ r. unsound (λ s. no-other s (eqb-false t 1 p) q r))))
 
   -- so many jobs, and the frames that they stand for, with zeros above; or no sound jobs, where there is room for so many
-  data JobsSeen (m : ℕ) (j : List ℕ) : Found (List Frame) → Type 0 where
-    stand : {fs : List Frame} → length fs ≡ m → StandFrom w n j 0 fs → ZeroFrom j m → JobsSeen m j (found fs)
-    broken : (3 * m ≤ length j → ((k : ℕ) → k < m → SoundJob n (recordAt j k)) → ZeroFrom j m → ⊥) → JobsSeen m j nowhere
+  data JobsSeen (m : ℕ) (j : List ℕ) : Lookup (List TreeFrame) → Type 0 where
+    stand : {fs : List TreeFrame} → length fs ≡ m → StandFrom w n j 0 fs → ZeroFrom j m → JobsSeen m j (found fs)
+    broken : (3 * m ≤ length j → ((k : ℕ) → k < m → SoundJob n (jobWordsAt j k)) → ZeroFrom j m → ⊥) → JobsSeen m j nowhere
 
-  one-more : (t a b m : ℕ) (j : List ℕ) {p : Found Frame} {q : Found (List Frame)} → JobSeen (words t a b) p → JobsSeen m j q
-      → JobsSeen (suc m) (t ∷ a ∷ b ∷ j) (andThen p (λ f. andThen q (λ fs. found (f ∷ fs))))
+  one-more : (t a b m : ℕ) (j : List ℕ) {p : Lookup TreeFrame} {q : Lookup (List TreeFrame)} → JobSeen (words t a b) p → JobsSeen m j q
+      → JobsSeen (suc m) (t ∷ a ∷ b ∷ j) (lookupThen p (λ f. lookupThen q (λ fs. found (f ∷ fs))))
   one-more t a b m j (stands {f = f} h) (stand {fs = fs} long hs zs) =
       stand {fs = f ∷ fs} (ap suc long) (rw (record-first t a b j) h, stand-onto t a b j w n 0 fs hs) (zero-onto t a b j m zs)
   one-more t a b m j (stands h) (broken g) =
@@ -142,7 +143,7 @@ module _ (w : List ℕ) (n : ℕ) (store : List Tree) (good : Holding w n store)
       g (omega arith) (λ k d. rw (record-past t a b j k) at (each (suc k) (omega arith))) (zero-past t a b j m zs))
   one-more t a b m j (unsound h) q = broken (λ l each zs. h (rw (record-first t a b j) at (each 0 (omega arith))))
 
-  zero-more : (x : ℕ) (j : List ℕ) → x ≡ 0 → {p : Found (List Frame)} → JobsSeen 0 j p → JobsSeen 0 (x ∷ j) p
+  zero-more : (x : ℕ) (j : List ℕ) → x ≡ 0 → {p : Lookup (List TreeFrame)} → JobsSeen 0 j p → JobsSeen 0 (x ∷ j) p
   zero-more x j e (stand {fs = []} long hs zs) = stand refl tt (zero-word x j e zs)
   zero-more x j e (stand {fs = f ∷ fs} long hs zs) = absurd (omega (arith, long))
   zero-more x j e (broken h) =
@@ -159,11 +160,11 @@ module _ (w : List ℕ) (n : ℕ) (store : List Tree) (good : Holding w n store)
   jobs-seen (suc m) (t ∷ a ∷ b ∷ j) = one-more t a b m j (job-seen t a b) (jobs-seen m j)
 
   -- what a run begins with, on both sides; or jobs that are not sound
-  pub data FramesSeen (from : From) (j : List ℕ) : Found (List Frame) → Type 0 where
-    waits : {fs : List Frame} → Waiting from w n j fs → FramesSeen from j (found fs)
+  pub data FramesSeen (from : From) (j : List ℕ) : Lookup (List TreeFrame) → Type 0 where
+    waits : {fs : List TreeFrame} → Waiting from w n j fs → FramesSeen from j (found fs)
     harmed : JobsDamaged from n j → FramesSeen from j nowhere
 
-  within : (waiting steps : ℕ) (j : List ℕ) {p : Found (List Frame)} → waiting ≤ frameRoom j → JobsSeen waiting j p
+  within : (waiting steps : ℕ) (j : List ℕ) {p : Lookup (List TreeFrame)} → waiting ≤ frameRoom j → JobsSeen waiting j p
       → FramesSeen (Stop waiting steps) j p
   within waiting steps j l (stand {fs = fs} long hs zs) =
       waits (

@@ -8,14 +8,17 @@ use mathlib.Core.Logic.{_↔_}
 use native.Mathlib.Omega.{arith}
 use native.Mathlib.Decide.{ℕ-discrete}
 use lib.ListN.{length}
-use lib.IntN.{ℤ, pos, negsuc}
-use Rattle.wire.specs.Relations.{Among, here, there}
-use Rattle.wire.proofs.Bytes.{not-both}
-use Rattle.wire.proofs.Tests.{below-exactly}
+use lib.IntN.{ℤ, pos}
+use Rattle.lists.specs.Among.{Among, here, there}
+use Rattle.lists.proofs.Same.{not-both}
+use Rattle.lists.proofs.Tests.{below-exactly}
+use Rattle.table.proofs.BaseLaws.{from-inside}
 use Rattle.manifest.specs.Judged.{exportsOf}
 use Rattle.nodes.specs.Records.{nodesOf}
-use Rattle.bundle.specs.Directory.{manifestSection, nodesSection}
-use Rattle.bundle.specs.Checks.{Check, headerChecks, directoryChecks, manifestChecks, nodeChecks, nameChecks, checks}
+use Rattle.container.specs.Directory.{manifestSection, nodesSection}
+use Rattle.bundle.specs.Checks.{manifestChecks, nodeChecks, nameChecks, checks}
+use Rattle.refusals.specs.Refusals.{Row, Ascends}
+use Rattle.container.specs.Checks.{headerChecks, directoryChecks, containerChecks}
 use Rattle.soundness.specs.Sound.{Sound}
 use Rattle.soundness.specs.Applies.{manifest, nodes, Applies, Smallest}
 use Rattle.soundness.proofs.ManifestMeaning.{reads-exports}
@@ -25,13 +28,12 @@ use Rattle.soundness.proofs.Sections.{described-manifest, sound-nodes, one-node
 use Rattle.soundness.proofs.Smallest.{Means, means-parts, means-map, Consecutive, first-exactly}
 use Rattle.soundness.proofs.Applies.{bounds, all-means}
 use Rattle.loader.specs.declared.LoadAnswer.the-variants.{Refused}
-use Rattle.loader.specs.Answer.{numbers}
+use Rattle.loader.specs.Answer.{loadNumbers}
 use Rattle.loader.specs.Load.{recordsIn, exportsIn, unfit, crowded, loadChecks, loadRefusal, Loaded, accept, acceptFrom, load}
-use Rattle.loader.proofs.Refusals.{load-ascends}
-use Rattle.guarantees.specs.Load.{Unfit, base-negative, Loadable, answerOf, AcceptedExactly, LoadNumberExactly}
+use Rattle.guarantees.specs.Load.{Loadable, loadNumbersOf, LoadAcceptedExactly, LoadNumberExactly}
 use Rattle.guarantees.specs.Load.{LoadRefusalKeeps}
 use Rattle.guarantees.specs.Load.{LoadApplies, of-file, unfit as at-21, crowded as at-22}
-use Rattle.guarantees.proofs.LoadVerdict.{fits-exactly, unrefused-exactly, load-unrefused, load-refused}
+use Rattle.guarantees.proofs.LoadVerdict.{fits-exactly, fitting, unrefused-exactly, load-unrefused, load-refused}
 
 -- the records and exports that are read are the bundle's
 pub nodes-read : {file : List ℕ} (sound : Sound file) → nodesOf (nodesSection file) ≡ sound .nodes
@@ -67,22 +69,21 @@ module _ (file w : List ℕ) (base : ℤ) (out : List ℕ) where
         rw (exports-read sound) (below-exactly (length out) _ .1 (l .space)),
       )
 
-  -- what is accepted has a base in the table
-  accept-at : (n : ℕ) → (Unfit w n base → ⊥) → (z : ℤ) → base ≡ z → answerOf (acceptFrom file w z out) .number ≡ 0
+  -- what is accepted at a base in the table is answered with 0
+  accept-at : (b : ℕ) → base ≡ pos b → b ≤ length w → loadNumbersOf (acceptFrom file w base out) .number ≡ 0
   unfolding acceptFrom accept
-  accept-at n fits (negsuc b) e = absurd (fits (rw e base-negative))
-  accept-at n fits (pos b) e = refl
+  accept-at b e h = rw (e, from-inside w _ _ b h)
 
   -- the number that is answered
-  number-is : answerOf (load file w base out) .number ≡ loadRefusal file w base out
+  number-is : loadNumbersOf (load file w base out) .number ≡ loadRefusal file w base out
   number-is = elim (ℕ-discrete (loadRefusal file w base out) 0) [
     | yes e ↦
-        let l = unrefused-loadable e in
-        rw (load-unrefused file w base out e, e) (accept-at (length (l .sound .nodes)) (l .fits) base refl)
-    | no n ↦ ap (λ (l : Loaded). answerOf l .number) (load-refused file w base out n)
+        let (b, q, inside, _) = fitting w _ base (unrefused-exactly file w base out .0 e .1) in
+        rw (load-unrefused file w base out e, e) (accept-at b q inside)
+    | no n ↦ ap (λ (l : Loaded). loadNumbersOf l .number) (load-refused file w base out n)
   ]
 
-pub accepted-exactly : AcceptedExactly
+pub accepted-exactly : LoadAcceptedExactly
 accepted-exactly file words base exports = (
   λ z. unrefused-loadable file words base exports (sym (number-is file words base exports) ∙ z),
   λ l. number-is file words base exports ∙ loadable-unrefused file words base exports l,
@@ -91,16 +92,16 @@ accepted-exactly file words base exports = (
 -- ---- the smallest number
 
 -- every number of a table is at most m
-abbrev AtMost : ℕ → List Check → Type 0
+abbrev AtMost : ℕ → List Row → Type 0
 AtMost m [] = Unit {0}
 AtMost m (c ∷ cs) = (c .number ≤ m) × AtMost m cs
 
-at-most : {m : ℕ} {c : Check} {cs : List Check} → AtMost m cs → Among c cs → c .number ≤ m
+at-most : {m : ℕ} {c : Row} {cs : List Row} → AtMost m cs → Among c cs → c .number ≤ m
 at-most h here = h .0
 at-most h (there a) = at-most (h .1) a
 
 file-most : (file : List ℕ) → AtMost 20 (checks file)
-unfolding checks nameChecks headerChecks directoryChecks manifestChecks nodeChecks
+unfolding checks nameChecks containerChecks headerChecks directoryChecks manifestChecks nodeChecks
 file-most file = omega arith
 
 module _ (file w : List ℕ) (base : ℤ) (out : List ℕ) where
@@ -156,15 +157,19 @@ module _ (file w : List ℕ) (base : ℤ) (out : List ℕ) where
       means-parts A (checks file) _ file-means
       (λ h. let sound = clear-sound file h in (row-21 sound, λ _. (row-22 sound, λ _. tt)))
 
+  load-ascends : Ascends 0 (loadChecks file w base out)
+  unfolding loadChecks checks nameChecks containerChecks headerChecks directoryChecks manifestChecks nodeChecks
+  load-ascends = omega arith
+
   load-all : Consecutive 0 (loadChecks file w base out)
-  unfolding loadChecks checks nameChecks headerChecks directoryChecks manifestChecks nodeChecks
+  unfolding loadChecks checks nameChecks containerChecks headerChecks directoryChecks manifestChecks nodeChecks
   load-all = omega arith
 
   pub smallest-exactly : (n : ℕ) → ((loadRefusal file w base out ≡ n) × (n ≡ 0 → ⊥)) ↔ Smallest A n
-  unfolding loadRefusal loadChecks checks nameChecks headerChecks directoryChecks manifestChecks nodeChecks
+  unfolding loadRefusal loadChecks checks nameChecks containerChecks headerChecks directoryChecks manifestChecks nodeChecks
   smallest-exactly n =
       let first =
-      first-exactly A (λ k x. load-bounds x .0) (loadChecks file w base out) (load-ascends file w base out) load-all load-means n
+      first-exactly A (λ k x. load-bounds x .0) (loadChecks file w base out) load-ascends load-all load-means n
       in
       (λ e. first .0 e .0, λ x. first .1 (x, load-bounds (x .applies) .1))
 
@@ -175,7 +180,7 @@ load-number-exactly file words base exports n =
 pub load-refusal-keeps : LoadRefusalKeeps load
 load-refusal-keeps file words words′ base exports exports′ a e n =
     let r = loadRefusal file words base exports in
-    let q : numbers a .number ≡ r = sym (ap (λ (l : Loaded). answerOf l .number) e) ∙ number-is file words base exports in
+    let q : loadNumbers a .number ≡ r = sym (ap (λ (l : Loaded). loadNumbersOf l .number) e) ∙ number-is file words base exports in
     let d : r ≡ 0 → ⊥ = λ z. n (q ∙ z) in
     let f = sym (load-refused file words base exports d) ∙ e in
     let g : Refused r ≡ a = cc in

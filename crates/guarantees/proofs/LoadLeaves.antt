@@ -8,15 +8,16 @@ use native.Mathlib.Decide.{decLt, ℕ-discrete}
 use lib.ListN.{length, getD, take, drop, length-append, length-drop}
 use lib.Seq.{take-at, drop-at, length-take-le}
 use lib.IntN.{ℤ, pos}
-use Rattle.wire.specs.Relations.{Among, here, there}
+use Rattle.lists.specs.Among.{Among, here, there}
 use Rattle.calculus.specs.Tree.{Tree}
 use Rattle.table.specs.Slots.{room}
+use Rattle.table.proofs.BaseLaws.{from-inside}
 use Rattle.manifest.specs.Content.{Export}
-use Rattle.nodes.specs.Records.{Node, hashes}
+use Rattle.nodes.specs.Records.{NodeRecord, hashes}
 use Rattle.nodes.specs.Links.{placedOf}
 use Rattle.nodes.proofs.Children.{hashes-at, number-of}
-use Rattle.bundle.specs.References.{exportHashes}
-use Rattle.bundle.proofs.Hashes.{export-hashes-length}
+use Rattle.references.specs.References.{exportHashes}
+use Rattle.references.proofs.Hashes.{export-hashes-length}
 use Rattle.soundness.specs.Graph.{Names}
 use Rattle.soundness.specs.NodesGrammar.{IsNodes}
 use Rattle.soundness.specs.Sound.{Sound}
@@ -24,7 +25,7 @@ use Rattle.soundness.proofs.NodesCircles.{short-exactly}
 use Rattle.soundness.proofs.Meaning.{one-tree-each}
 use Rattle.loader.specs.declared.LoadAnswer.{LoadAnswer}
 use Rattle.loader.specs.declared.LoadAnswer.the-variants.{Refused, Accepted}
-use Rattle.loader.specs.Answer.{numbers}
+use Rattle.loader.specs.Answer.{loadNumbers}
 use Rattle.loader.specs.Written.{slotNamed, written, slotsNamed}
 use Rattle.loader.specs.Load.{unfit, loadRefusal, loaded, exportsWritten, accept, acceptFrom, load}
 use Rattle.guarantees.specs.Order.{TreesOf, none, more}
@@ -52,7 +53,7 @@ hashes-mapped [] = refl
 hashes-mapped (e ∷ es) = ap (λ (hs : List (List ℕ)). e .hash ∷ hs) (hashes-mapped es)
 
 -- the slots of some hashes
-module _ (rs : List Node) where
+module _ (rs : List NodeRecord) where
   slots-long : (hs : List (List ℕ)) → length (slotsNamed rs hs) ≡ length hs
   unfolding slotsNamed
   slots-long [] = refl
@@ -70,7 +71,7 @@ module _ (rs : List Node) where
 module _ (file w out : List ℕ) (b : ℕ) (sound : Sound file) (inside : b ≤ length w)
     (fits : length (sound .nodes) ≤ room (drop b w))
     (space : length (sound .described .manifest .exports) ≤ length out) where
-  abbrev rs : List Node
+  abbrev rs : List NodeRecord
   rs = sound .nodes
 
   abbrev es : List Export
@@ -89,7 +90,7 @@ module _ (file w out : List ℕ) (b : ℕ) (sound : Sound file) (inside : b ≤ 
         | no l ↦ omega (arith, l)
       ]
 
-  abbrev placedAll : List Node
+  abbrev placedAll : List NodeRecord
   placedAll = order rs are (sound .distinct) (sound .closed) whole
 
   abbrev table : List ℕ
@@ -98,7 +99,7 @@ module _ (file w out : List ℕ) (b : ℕ) (sound : Sound file) (inside : b ≤ 
   abbrev left : List ℕ
   left = take b w ++ table
 
-  trees-of : (ps : List Node) → ((r : Node) → Among r ps → Among r rs) →
+  trees-of : (ps : List NodeRecord) → ((r : NodeRecord) → Among r ps → Among r rs) →
       (ts : List Tree) × TreesOf rs ps ts × (length ts ≡ length ps)
   trees-of [] among = ([], none, refl)
   trees-of (p ∷ ps) among =
@@ -119,13 +120,13 @@ module _ (file w out : List ℕ) (b : ℕ) (sound : Sound file) (inside : b ≤ 
         holds = named-holds rs are (sound .distinct) (sound .closed) whole (drop b w) fits names;
         placed =
             hashes-at placedAll (slotNamed rs h .0)
-            ∙ slot-order rs are (sound .distinct) (sound .closed) whole h i l (ap (λ (q : Node). q .hash) f ∙ e);
+            ∙ slot-order rs are (sound .distinct) (sound .closed) whole h i l (ap (λ (q : NodeRecord). q .hash) f ∙ e);
       }
 
   left-table : drop b left ≡ table
   left-table = drop-at (take b w) table b (length-take-le b w inside)
 
-  pub loads : Loads file w (pos b) out left (exportsWritten rs es out) (numbers (Accepted (length rs) (length es)))
+  pub loads : Loads file w (pos b) out left (exportsWritten rs es out) (loadNumbers (Accepted (length rs) (length es)))
   unfolding exportsWritten
   loads =
       let is-order = in-order rs are (sound .distinct) (sound .closed) whole some in
@@ -164,14 +165,14 @@ module _ (file w out : List ℕ) (b : ℕ) (sound : Sound file) (inside : b ≤ 
 
 module _ (file w out : List ℕ) (base : ℤ) (e : loadRefusal file w base out ≡ 0) where
   -- what it leaves and answers is that of the bundle, at the base
-  accepted-as : (sound : Sound file) (b : ℕ) → base ≡ pos b →
+  accepted-as : (sound : Sound file) (b : ℕ) → base ≡ pos b → b ≤ length w →
       load file w base out ≡
       loaded (take b w ++ written (sound .nodes) 0 (sound .nodes) (drop b w))
       (exportsWritten (sound .nodes) (sound .described .manifest .exports) out)
       (Accepted (length (sound .nodes)) (length (sound .described .manifest .exports)))
   unfolding acceptFrom accept
-  accepted-as sound b q =
-      load-unrefused file w base out e ∙ rw (q, nodes-read sound, exports-read sound)
+  accepted-as sound b q inside =
+      load-unrefused file w base out e ∙ rw (q, from-inside w _ _ b inside, nodes-read sound, exports-read sound)
 
 pub load-leaves : LoadLeaves load
 load-leaves file words words′ base exports exports′ a e y =
@@ -179,19 +180,19 @@ load-leaves file words words′ base exports exports′ a e y =
       | no d ↦
           let f = sym (load-refused file words base exports d) ∙ e in
           let q : Refused (loadRefusal file words base exports) ≡ a = cc in
-          absurd (d (ap (λ (x : LoadAnswer). numbers x .number) q ∙ y))
+          absurd (d (ap (λ (x : LoadAnswer). loadNumbers x .number) q ∙ y))
       | yes z ↦
           let l = unrefused-loadable file words base exports z in
           let sound = l .sound in
           let (_, r21, _) = unrefused-exactly file words base exports .0 z in
           let r : unfit words base (length (sound .nodes)) ≡ false = rw (nodes-read sound) at r21 in
-          let (b, q, inside, fits) = fitting words base _ r in
-          go b q (sym (accepted-as file words exports base z sound b q) ∙ e)
+          let (b, q, inside, fits) = fitting words _ base r in
+          go b q (sym (accepted-as file words exports base z sound b q inside) ∙ e)
           (loads file words exports b sound inside fits (l .space))
     ]
   where
     go : {w v : List ℕ} {c : LoadAnswer} (b : ℕ) → base ≡ pos b → loaded w v c ≡ loaded words′ exports′ a →
-        Loads file words (pos b) exports w v (numbers c) → Loads file words base exports words′ exports′ (numbers a)
+        Loads file words (pos b) exports w v (loadNumbers c) → Loads file words base exports words′ exports′ (loadNumbers a)
     go {w} {v} {c} b q f l =
         let x : w ≡ words′ = cc in
         let y : v ≡ exports′ = cc in

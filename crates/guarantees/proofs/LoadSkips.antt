@@ -1,14 +1,14 @@
 -- Two files alike in all that is read are loaded alike: the same numbers apply, and what is accepted has the same sections.
 use Prim.Native.Nat.{ℕ}
-use mathlib.Core.Path.{_≡_, refl, sym, _∙_}
+use mathlib.Core.Path.{_≡_, sym, _∙_}
 use mathlib.Core.List.{List}
 use native.Mathlib.Decide.{ℕ-discrete}
-use lib.IntN.{ℤ, pos, negsuc}
-use Rattle.bundle.specs.Directory.{manifestSection, nodesSection}
+use lib.IntN.{ℤ}
+use Rattle.container.specs.Directory.{manifestSection, nodesSection}
 use Rattle.soundness.specs.Skipped.{ReadAlike}
 use Rattle.soundness.proofs.Smallest.{smallest-alike, one-number}
 use Rattle.soundness.proofs.Skipped.{alike-back, applies-to, manifest-alike, nodes-alike, same-manifest, same-nodes}
-use Rattle.loader.specs.Load.{loadRefusal, accept, acceptFrom, load}
+use Rattle.loader.specs.Load.{loadRefusal, acceptFrom, load}
 use Rattle.guarantees.specs.Load.{LoadApplies, of-file, unfit, crowded, LoadSkips}
 use Rattle.guarantees.proofs.LoadVerdict.{load-unrefused, load-refused}
 use Rattle.guarantees.proofs.LoadAccepted.{unrefused-loadable, smallest-exactly}
@@ -26,10 +26,9 @@ module _ {file other : List ℕ} (w : List ℕ) (base : ℤ) (out : List ℕ) (r
       (smallest-exactly file w base out) (smallest-exactly other w base out)
 
   accepted-alike : manifestSection file ≡ manifestSection other → nodesSection file ≡ nodesSection other →
-      (z : ℤ) → acceptFrom file w z out ≡ acceptFrom other w z out
-  unfolding acceptFrom accept
-  accepted-alike m s (negsuc b) = refl
-  accepted-alike m s (pos b) = rw (m, s)
+      acceptFrom file w base out ≡ acceptFrom other w base out
+  unfolding acceptFrom
+  accepted-alike m s = rw (m, s)
 
   loaded-alike : load file w base out ≡ load other w base out
   loaded-alike = elim (ℕ-discrete (loadRefusal file w base out) 0) [
@@ -38,7 +37,7 @@ module _ {file other : List ℕ} (w : List ℕ) (base : ℤ) (out : List ℕ) (r
         let d = unrefused-loadable file w base out e .sound .described in
         let g = unrefused-loadable other w base out f .sound .described in
         rw (load-unrefused file w base out e, load-unrefused other w base out f)
-        (accepted-alike (same-manifest r d g) (same-nodes r d g) base)
+        (accepted-alike (same-manifest r d g) (same-nodes r d g))
     | no n ↦
         rw (load-refused file w base out n, load-refused other w base out (λ e. n (same-load-refusal ∙ e)), same-load-refusal)
   ]

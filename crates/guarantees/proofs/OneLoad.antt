@@ -7,10 +7,10 @@ use native.Mathlib.Decide.{decLt}
 use lib.ListN.{length, getD, take, drop, take-append-drop}
 use lib.Seq.{ext-getD, getD-drop}
 use lib.IntN.{ℤ, pos}
-use Rattle.wire.specs.Relations.{Distinct}
+use Rattle.lists.specs.Among.{Distinct}
 use Rattle.manifest.specs.Content.{Export}
 use Rattle.soundness.proofs.NodesTrees.{one-tree}
-use Rattle.loader.specs.Answer.{Numbers}
+use Rattle.loader.specs.Answer.{LoadNumbers}
 use Rattle.guarantees.specs.Session.{Holding}
 use Rattle.guarantees.specs.Load.{NamedSlot, Loads}
 use Rattle.guarantees.proofs.LoadAccepted.{exports-read}
@@ -18,10 +18,10 @@ use Rattle.guarantees.proofs.OneTable.{one-slot, one-table}
 use Rattle.guarantees.proofs.OneOrder.{same-nodes, one-order, one-start, store-distinct}
 
 -- the numbers of an answer are three
-pub same-three : {a b : Numbers} → a .number ≡ b .number → a .nodes ≡ b .nodes → a .exports ≡ b .exports → a ≡ b
+pub same-three : {a b : LoadNumbers} → a .number ≡ b .number → a .nodes ≡ b .nodes → a .exports ≡ b .exports → a ≡ b
 same-three p q r = λ i. record { number = p i; nodes = q i; exports = r i }
 
-module _ {file words : List ℕ} {base : ℤ} {exports w v e o : List ℕ} {a b : Numbers}
+module _ {file words : List ℕ} {base : ℤ} {exports w v e o : List ℕ} {a b : LoadNumbers}
     (l : Loads file words base exports w e a) (m : Loads file words base exports v o b) where
   -- the bundle, its order of placing, its store and the base are the same
   same-records : m .sound .nodes ≡ l .sound .nodes

@@ -7,8 +7,8 @@ use native.Mathlib.Nat.{zero-add}
 use native.Mathlib.Decide.{decLt}
 use lib.ListN.{length, getD}
 use lib.Seq.{ext-getD}
-use Rattle.wire.specs.Relations.{Distinct}
-use Rattle.wire.proofs.Index.{distinct-index}
+use Rattle.lists.specs.Among.{Distinct}
+use Rattle.lists.proofs.Index.{distinct-index}
 use Rattle.calculus.specs.Tree.{Tree, leaf}
 use Rattle.table.specs.Slots.{SameSlots}
 use Rattle.table.specs.Holds.{Holds, holds-leaf, holds-stem, holds-fork, Untouched}

@@ -8,21 +8,21 @@ use native.Mathlib.Decide.{ℕ-discrete}
 use Rattle.soundness.proofs.Smallest.{one-number}
 use Rattle.loader.specs.declared.LoadAnswer.{LoadAnswer}
 use Rattle.loader.specs.declared.LoadAnswer.the-variants.{Refused, Accepted}
-use Rattle.loader.specs.Answer.{Numbers, numbers}
+use Rattle.loader.specs.Answer.{LoadNumbers, loadNumbers}
 use Rattle.loader.specs.Load.{Loaded, loaded, load}
-use Rattle.guarantees.specs.Load.{answerOf, OnlyLoad}
+use Rattle.guarantees.specs.Load.{loadNumbersOf, OnlyLoad}
 use Rattle.guarantees.proofs.LoadAccepted.{load-number-exactly, load-refusal-keeps}
 use Rattle.guarantees.proofs.LoadLeaves.{load-leaves}
 use Rattle.guarantees.proofs.OneLoad.{one-load}
 
 -- an answer is known by its numbers: an accepted load has nodes
-one-answer : (a b : LoadAnswer) → (numbers a .number ≡ 0 → 0 < numbers a .nodes) → numbers a ≡ numbers b → a ≡ b
-one-answer (Refused n) (Refused m) some e = ap Refused (ap (λ (x : Numbers). x .number) e)
-one-answer (Refused n) (Accepted j k) some e = absurd (omega (arith, some (ap (λ (x : Numbers). x .number) e)))
+one-answer : (a b : LoadAnswer) → (loadNumbers a .number ≡ 0 → 0 < loadNumbers a .nodes) → loadNumbers a ≡ loadNumbers b → a ≡ b
+one-answer (Refused n) (Refused m) some e = ap Refused (ap (λ (x : LoadNumbers). x .number) e)
+one-answer (Refused n) (Accepted j k) some e = absurd (omega (arith, some (ap (λ (x : LoadNumbers). x .number) e)))
 one-answer (Accepted j k) (Refused n) some e =
-    absurd (omega (arith, some refl, ap (λ (x : Numbers). x .nodes) e))
+    absurd (omega (arith, some refl, ap (λ (x : LoadNumbers). x .nodes) e))
 one-answer (Accepted j k) (Accepted i h) some e =
-    cc (ap (λ (x : Numbers). x .nodes) e, ap (λ (x : Numbers). x .exports) e)
+    cc (ap (λ (x : LoadNumbers). x .nodes) e, ap (λ (x : LoadNumbers). x .exports) e)
 
 pub only-load : OnlyLoad
 only-load call exactly keeps leaves file words base exports =
@@ -30,10 +30,10 @@ only-load call exactly keeps leaves file words base exports =
     (one-number (λ n. Iff·rfl) (exactly file words base exports) (load-number-exactly file words base exports))
   where
     go : (x : Loaded) → call file words base exports ≡ x → (y : Loaded) → load file words base exports ≡ y →
-        answerOf (call file words base exports) .number ≡ answerOf (load file words base exports) .number → x ≡ y
+        loadNumbersOf (call file words base exports) .number ≡ loadNumbersOf (load file words base exports) .number → x ≡ y
     go (loaded w e a) p (loaded v o b) q same =
-        let one : numbers a .number ≡ numbers b .number = rw (p, q) at same in
-        elim (ℕ-discrete (numbers a .number) 0) [
+        let one : loadNumbers a .number ≡ loadNumbers b .number = rw (p, q) at same in
+        elim (ℕ-discrete (loadNumbers a .number) 0) [
           | yes z ↦
               let l = leaves file words w base exports e a p z in
               let (x, y, n) = one-load l (load-leaves file words v base exports o b q (sym one ∙ z)) in
@@ -42,6 +42,6 @@ only-load call exactly keeps leaves file words base exports =
               let (i, _, f, x, y) = keeps file words w base exports e a p d in
               let (k, _, g, s, t) = load-refusal-keeps file words v base exports o b q (λ z. d (one ∙ z)) in
               let m : i ≡ k = cc in
-              let n : numbers a ≡ numbers b = f ∙ rw m (sym g) in
+              let n : loadNumbers a ≡ loadNumbers b = f ∙ rw m (sym g) in
               λ j. loaded ((x ∙ sym s) j) ((y ∙ sym t) j) (one-answer a b (λ z. absurd (d z)) n j)
         ]

@@ -7,15 +7,15 @@ use native.Mathlib.Omega.{arith}
 use lib.ListN.{length, drop, length-append}
 use lib.IntN.{ℤ}
 use Rattle.calculus.specs.Tree.{Tree}
-use Rattle.calculus.specs.Rules.{Frame}
+use Rattle.calculus.specs.Rules.{TreeFrame}
 use Rattle.calculus.specs.Machine.{Outcome}
-use Rattle.table.specs.Holds.{StandFrom}
+use Rattle.frames.specs.Stand.{StandFrom}
 use Rattle.table.proofs.HoldsLaws.{from-kept, from-append, untouched-refl, untouched-kept}
-use Rattle.table.proofs.SoundFrames.{standing-sound}
+use Rattle.frames.proofs.SoundFrames.{standing-sound}
 use Rattle.engine.specs.declared.RunAnswer.the-variants.{Refused}
 use Rattle.engine.specs.Run.{Ran, ran, runFrom}
 use Rattle.engine.specs.declared.From.{From}
-use Rattle.engine.specs.Answer.{Numbers}
+use Rattle.engine.specs.Answer.{RunNumbers}
 use Rattle.guarantees.specs.Agrees.{Leaves, Agrees, agrees-done, agrees-stop}
 use Rattle.guarantees.specs.Run.{RunCall, SimulatesFrom, RefusedFrom, RefusedWith}
 use Rattle.guarantees.specs.OnlyRun.{SameSince, SameTables, SameEnd, same-done, same-stop}
@@ -54,7 +54,7 @@ module _ {w w′ j v k v′ k′ : List ℕ} {n q : ℕ} (s : SameSince n q w w�
         new′ = from-append v′ m n q (s .made) made (s .count) (from-kept (untouched-kept (omega arith) b) n (s .made) (s .new′)) (l′ .new);
       }
 
-  same-tables : {made : List Tree} (frames : List Frame)
+  same-tables : {made : List Tree} (frames : List TreeFrame)
       → StandFrom v (q + length made) k 0 frames → Leaves w q j v (q + length made) k made (length frames)
       → StandFrom v′ (q + length made) k′ 0 frames → Leaves w′ q j v′ (q + length made) k′ made (length frames)
       → SameTables n (q + length made) v k v′ k′ frames
@@ -70,7 +70,7 @@ module _ {w w′ j v k v′ k′ : List ℕ} {n q : ℕ} (s : SameSince n q w w�
       }
 
   -- two answers that agree with one outcome
-  pub same-end : {a a′ : Numbers} {o : Outcome} → Agrees w q j v k a o → Agrees w′ q j v′ k′ a′ o
+  pub same-end : {a a′ : RunNumbers} {o : Outcome} → Agrees w q j v k a o → Agrees w′ q j v′ k′ a′ o
       → SameEnd n v k v′ k′ a a′
   same-end (agrees-done h l) (agrees-done h′ l′) = same-done h h′ (same-tables [] tt l tt l′)
   same-end (agrees-stop {frames = frames} f x s l) (agrees-stop f′ x′ s′ l′) =

@@ -7,10 +7,10 @@ use lib.Seq.{drop-append-seam}
 use Rattle.calculus.specs.Tree.{Tree}
 use Rattle.calculus.specs.Machine.{Outcome}
 use Rattle.engine.specs.Run.{Ran}
-use Rattle.engine.specs.Answer.{Numbers}
+use Rattle.engine.specs.Answer.{RunNumbers}
 use Rattle.guarantees.specs.Agrees.{Agrees, agrees-done, agrees-stop}
 use Rattle.guarantees.specs.Run.{Calls}
-use Rattle.guarantees.specs.Session.{Request, beforeOf, Bring, Reply, reply, storeAfter, Table, answer, tableAfter}
+use Rattle.guarantees.specs.Session.{Request, beforeOf, Bring, Reply, reply, storeAfter, Table, called, tableAfter}
 use Rattle.guarantees.specs.Session.{Alike, alike-refused, alike-answered, AllAlike}
 use Rattle.guarantees.specs.OnlyRun.{SameSince, SameAnswer, refused-alike, ended-alike, SameAll, OnlySession}
 use Rattle.guarantees.proofs.SessionSimulates.{used-grows, agrees-starts}
@@ -23,7 +23,7 @@ module _ (b n : ℕ) where
     since : SameSince n (t .used) (t .words) (t′ .words)
 
   -- the slots that two runs of one outcome leave
-  since-both : {w w′ j v k v′ k′ : List ℕ} {q : ℕ} {a a′ : Numbers} {o : Outcome} → SameSince n q w w′
+  since-both : {w w′ j v k v′ k′ : List ℕ} {q : ℕ} {a a′ : RunNumbers} {o : Outcome} → SameSince n q w w′
       → Agrees w q j v k a o → Agrees w′ q j v′ k′ a′ o → SameSince n (a .used) v v′
   since-both s (agrees-done h l) (agrees-done h′ l′) = since-grows s l l′
   since-both s (agrees-stop f x h l) (agrees-stop f′ x′ h′ l′) = since-grows s l l′
@@ -58,8 +58,8 @@ module _ (call other : Calls) (b n most : ℕ) where
       → AllAlike call b most t store cs → AllAlike other b most t′ store cs → SameAll call other b n t t′ cs
   same-all [] t t′ store pair bring h h′ = (pair .used, pair .since)
   same-all (c ∷ cs) t t′ store pair bring h h′ =
-      let r = answer call b t c in
-      let r′ = answer other b t′ c in
+      let r = called call b t c in
+      let r′ = called other b t′ c in
       let p = reply most store c in
       let (same, next) = one-request b n t t′ pair c (bring .0) r r′ p (h .0) (h′ .0) in
       (same, same-all cs (tableAfter b t r) (tableAfter b t′ r′) (storeAfter store p) next (bring .1) (h .1) (h′ .1))

@@ -9,7 +9,7 @@ use lib.Seq.{drop-append-seam}
 use lib.IntN.{ℤ, pos}
 use Rattle.calculus.specs.Tree.{Tree}
 use Rattle.calculus.specs.BigStep.{Costs}
-use Rattle.calculus.specs.Machine.{Stop, no-fuel, no-slot, no-place, stopNumber, ended, Outcome}
+use Rattle.calculus.specs.Machine.{Stop, out-of-fuel, out-of-slots, out-of-places, stopNumber, ended, Outcome}
 use Rattle.calculus.specs.Machine as machine
 use Rattle.calculus.proofs.DoneStays.{not-done}
 use Rattle.calculus.proofs.DoneByCost.{done-by-cost}
@@ -19,7 +19,7 @@ use Rattle.table.specs.Holds.{Holds}
 use Rattle.table.proofs.HoldsLaws.{one-tree}
 use Rattle.engine.specs.declared.From.the-variants.{Scratch}
 use Rattle.engine.specs.Answer as run
-use Rattle.plain.specs.Answer.{Numbers}
+use Rattle.plain.specs.Answer.{PlainNumbers}
 use Rattle.plain.specs.Run.{plainRun}
 use Rattle.plain.specs.Meaning.{Shown, shown, telling, ofRun}
 use Rattle.plain.proofs.PlainIsRun.{plain-is-run}
@@ -30,14 +30,14 @@ use Rattle.guarantees.proofs.RunSimulates.{run-simulates}
 use Rattle.guarantees.proofs.PlainTwin.{lent, lent-room, twin}
 
 stop-above : (why : Stop) → stopNumber why ≡ 0 → ⊥
-stop-above no-fuel e = omega arith
-stop-above no-slot e = omega arith
-stop-above no-place e = omega arith
+stop-above out-of-fuel e = omega arith
+stop-above out-of-slots e = omega arith
+stop-above out-of-places e = omega arith
 
 -- ---- a run whose answer agrees with an outcome
 
 -- both are done
-record BothDone (v : List ℕ) (used : ℕ) (a : run.Numbers) (o : Outcome) : Type 0 where
+record BothDone (v : List ℕ) (used : ℕ) (a : run.RunNumbers) (o : Outcome) : Type 0 where
   pub slot : ℕ
   pub tree : Tree
   pub answer : a ≡ doneWith slot (o .steps) (used + length (o .made))
@@ -46,11 +46,11 @@ record BothDone (v : List ℕ) (used : ℕ) (a : run.Numbers) (o : Outcome) : Ty
 
 module _ {w j v k : List ℕ} {used : ℕ} where
   -- by the number 0, or by the ending
-  done-by-number : {a : run.Numbers} {o : Outcome} → Agrees w used j v k a o → a .number ≡ 0 → BothDone v used a o
+  done-by-number : {a : run.RunNumbers} {o : Outcome} → Agrees w used j v k a o → a .number ≡ 0 → BothDone v used a o
   done-by-number (agrees-done {slot = s} {t = t} h l) e = record { slot = s; tree = t; answer = refl; holds = h; ending = refl }
   done-by-number (agrees-stop {why = why} hf hx hs l) e = absurd (stop-above why e)
 
-  number-by-ending : {a : run.Numbers} {o : Outcome} (t : Tree) → Agrees w used j v k a o → o .ending ≡ ended t → a .number ≡ 0
+  number-by-ending : {a : run.RunNumbers} {o : Outcome} (t : Tree) → Agrees w used j v k a o → o .ending ≡ ended t → a .number ≡ 0
   number-by-ending t (agrees-done h l) e = refl
   number-by-ending t (agrees-stop hf hx hs l) e = not-done e
 
@@ -70,7 +70,7 @@ append-same before v u e = sym (drop-append-seam before v) ∙ ap (drop (length 
 module _ (before w : List ℕ) (used f x fuel places n m : ℕ) (ft xt t : Tree) (sound : SoundSlots w used) (hf : Holds w used f ft)
     (hx : Holds w used x xt) (low : fuel ≤ 1000) (few : places ≤ 1000) where
   abbrev o : Outcome
-  o = machine.run fuel (room w - used) places (machine.start ft xt)
+  o = machine.run fuel (room w - used) places (machine.machineStart ft xt)
 
   abbrev ours : Shown
   ours = shown (plainRun (before ++ w) (pos (length before)) (pos f) (pos x) used fuel places)
@@ -78,13 +78,13 @@ module _ (before w : List ℕ) (used f x fuel places n m : ℕ) (ft xt t : Tree)
   abbrev due : List ℕ → ℕ → Shown
   due v slot = record { words = before ++ v; answer = record { number = 0; slot = pos slot; steps = n; used = used + m } }
 
-  simulated : (v : List ℕ) × (k : List ℕ) × (a : run.Numbers) × (ours ≡ telling (before ++ v) a)
+  simulated : (v : List ℕ) × (k : List ℕ) × (a : run.RunNumbers) × (ours ≡ telling (before ++ v) a)
       × Agrees w used (lent places) v k a (later 0 o)
   simulated =
       let (v, k, a, e, agrees) = run-simulates Scratch before w (lent places) used f x fuel ft xt [] sound hf hx refl (λ z. z) in (
         v,
         k,
-        run.numbers a,
+        run.runNumbers a,
         twin plainRun plain-is-run (before ++ w) (pos (length before)) (pos f) (pos x) used fuel places low few ∙ ap ofRun e,
         rw (lent-room places few) at agrees,
       )
@@ -97,14 +97,14 @@ module _ (before w : List ℕ) (used f x fuel places n m : ℕ) (ft xt t : Tree)
       let q : telling (before ++ u) a ≡ due v slot = sym e ∙ s in
       let d = done-by-number agrees (ap (λ (z : Shown). z .answer .number) q) in
       let steps : o .steps ≡ n
-      = sym (zero-add (o .steps)) ∙ sym (ap (λ (z : run.Numbers). z .steps) (d .answer)) ∙ ap (λ (z : Shown). z .answer .steps) q
+      = sym (zero-add (o .steps)) ∙ sym (ap (λ (z : run.RunNumbers). z .steps) (d .answer)) ∙ ap (λ (z : Shown). z .answer .steps) q
       in
       let count : used + length (o .made) ≡ used + m
-      = sym (ap (λ (z : run.Numbers). z .used) (d .answer)) ∙ ap (λ (z : Shown). z .answer .used) q
+      = sym (ap (λ (z : run.RunNumbers). z .used) (d .answer)) ∙ ap (λ (z : Shown). z .answer .used) q
       in
       let made : length (o .made) ≡ m = omega arith in
       let at : d .slot ≡ slot
-      = slot-same (d .slot) slot (sym (ap (λ (z : run.Numbers). z .slot) (d .answer)) ∙ ap (λ (z : Shown). z .answer .slot) q)
+      = slot-same (d .slot) slot (sym (ap (λ (z : run.RunNumbers). z .slot) (d .answer)) ∙ ap (λ (z : Shown). z .answer .slot) q)
       in
       let words : u ≡ v = append-same before u v (ap (λ (z : Shown). z .words) q) in
       let held : Holds v (used + m) slot (d .tree)

@@ -9,7 +9,7 @@ use native.Mathlib.Omega.{arith}
 use borrow.Author.Tests.{le-leb}
 use Rattle.plain.specs.declared.PlainAnswer.{PlainAnswer}
 use Rattle.plain.specs.declared.PlainAnswer.the-variants.{Refused, Done, Stopped}
-use Rattle.plain.specs.Answer.{Numbers, numbers}
+use Rattle.plain.specs.Answer.{PlainNumbers, plainNumbers}
 use Rattle.plain.specs.Run.{Played, played, plainRun}
 use Rattle.plain.specs.Meaning.{Shown, shown}
 use Rattle.guarantees.specs.Run.{started as let-start, Listed}
@@ -40,7 +40,7 @@ module _ (w v : List ℕ) (a : PlainAnswer) where
   kept : (n : ℕ) → played w (Refused n) ≡ played v a → shown (played v a) ≡ refused n w
   kept n e = sym (ap shown e)
 
-  keeps : {r : Played} → r ≡ played v a → let-start (numbers a .number) ≡ false →
+  keeps : {r : Played} → r ≡ played v a → let-start (plainNumbers a .number) ≡ false →
       Goes r ⊎ ((n : ℕ) × (r ≡ played w (Refused n)) × Listed 49 n) → (n : ℕ) × (shown (played v a) ≡ refused n w) × Listed 49 n
   keeps {r} e s (inl h) =
       absurd (false≢true (sym s ∙ sym (ap (λ (p : Played). let-start (shown p .answer .number)) e) ∙ goes-started r h))
@@ -66,15 +66,15 @@ tells (inr (n, q, l)) = subst Telling (sym q) l
 pub plain-number-tells : PlainNumberTells plainRun
 plain-number-tells w v base f x used fuel places a e = subst Telling e (tells {w = w} (listed (plain-verdict w base f x used fuel places)))
 
-number-same : {a b : Numbers} → a ≡ b → a .number ≡ b .number
-number-same e = ap (λ (n : Numbers). n .number) e
+number-same : {a b : PlainNumbers} → a ≡ b → a .number ≡ b .number
+number-same e = ap (λ (n : PlainNumbers). n .number) e
 
 pub plain-one-answer : PlainOneAnswer
 plain-one-answer (Refused n) (Refused m) h g e = ap Refused (number-same e)
 plain-one-answer (Done s k u) (Done s′ k′ u′) h g e =
-    cc (ap (λ (x : Numbers). x .slot) e, ap (λ (x : Numbers). x .steps) e, ap (λ (x : Numbers). x .used) e)
+    cc (ap (λ (x : PlainNumbers). x .slot) e, ap (λ (x : PlainNumbers). x .steps) e, ap (λ (x : PlainNumbers). x .used) e)
 plain-one-answer (Stopped n k u) (Stopped n′ k′ u′) h g e =
-    cc (number-same e, ap (λ (x : Numbers). x .steps) e, ap (λ (x : Numbers). x .used) e)
+    cc (number-same e, ap (λ (x : PlainNumbers). x .steps) e, ap (λ (x : PlainNumbers). x .used) e)
 plain-one-answer (Refused n) (Done s k u) h g e = absurd (listed-above {last = 49} (omega arith) h (number-same e))
 plain-one-answer (Refused n) (Stopped m k u) h g e = absurd (listed-apart {last = 49} (omega arith) h g (number-same e))
 plain-one-answer (Done s k u) (Refused n) h g e = absurd (listed-above {last = 49} (omega arith) g (sym (number-same e)))

@@ -7,8 +7,8 @@ use native.Mathlib.Omega.{arith}
 use native.Mathlib.Decide.{decLt}
 use lib.ListN.{length, replicate, length-replicate}
 use lib.IntN.{ℤ}
-use Rattle.table.specs.Frames.{frameRoom}
-use Rattle.table.proofs.FrameLaws.{job-room-is}
+use Rattle.frames.specs.Frames.{frameRoom}
+use Rattle.frames.proofs.FrameLaws.{job-room-is}
 use Rattle.engine.specs.declared.From.the-variants.{Scratch}
 use Rattle.engine.specs.Run.{runFrom}
 use Rattle.plain.specs.Meaning.{PlainCall, shown, ofRun, PlainIsRun}

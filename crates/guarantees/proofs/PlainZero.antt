@@ -9,7 +9,7 @@ use Rattle.engine.specs.declared.From.the-variants.{Scratch}
 use Rattle.engine.specs.Answer as run
 use Rattle.engine.specs.Run.{Ran, ran, runFrom}
 use Rattle.plain.specs.declared.PlainAnswer.{PlainAnswer}
-use Rattle.plain.specs.Answer.{numbers}
+use Rattle.plain.specs.Answer.{plainNumbers}
 use Rattle.plain.specs.Run.{Played, played, plainRun}
 use Rattle.plain.specs.Meaning.{Shown, shown, ofRun}
 use Rattle.plain.proofs.PlainIsRun.{plain-is-run}
@@ -31,12 +31,12 @@ deep-refused deep (at-last a b c d) = (49, refl, refl)
 deep-refused deep (started a b c d h) = absurd (d deep)
 
 module _ (w v : List ℕ) (base f x : ℤ) (used fuel places : ℕ) (a : PlainAnswer) (e : plainRun w base f x used fuel places ≡ played v a)
-    (s : let-start (numbers a .number) ≡ true) where
+    (s : let-start (plainNumbers a .number) ≡ true) where
   -- what a run leaves that answers the same number
   zero-of : (r : Ran) → runFrom Scratch w base f x used fuel (lent places) ≡ r → shown (played v a) ≡ ofRun r → ZeroIsLeaf base v
   zero-of (ran u j b) q same =
       let words : v ≡ u = ap (λ (n : Shown). n .words) same in
-      let goes : let-start (run.numbers b .number) ≡ true
+      let goes : let-start (run.runNumbers b .number) ≡ true
       = subst (λ (n : Shown). let-start (n .answer .number) ≡ true) same s
       in
       subst (ZeroIsLeaf base) (sym words) (run-zero Scratch w u (lent places) j base f x used fuel b q goes)
@@ -51,5 +51,5 @@ module _ (w v : List ℕ) (base f x : ℤ) (used fuel places : ℕ) (a : PlainAn
       (sym (ap shown e) ∙ twin plainRun plain-is-run w base f x used fuel places low few)
 
 pub plain-zero : (w v : List ℕ) (base f x : ℤ) (used fuel places : ℕ) (a : PlainAnswer) →
-    plainRun w base f x used fuel places ≡ played v a → let-start (numbers a .number) ≡ true → ZeroIsLeaf base v
+    plainRun w base f x used fuel places ≡ played v a → let-start (plainNumbers a .number) ≡ true → ZeroIsLeaf base v
 plain-zero w v base f x used fuel places a e s = zero w v base f x used fuel places a e s (deep-or-not fuel places)

@@ -7,7 +7,7 @@ use mathlib.Core.Logic.{_↔_}
 use native.Mathlib.Omega.{arith}
 use Rattle.engine.specs.declared.RunAnswer.the-variants.{Refused}
 use Rattle.engine.specs.Run.{Ran, ran, runFrom}
-use Rattle.engine.specs.Answer.{Numbers}
+use Rattle.engine.specs.Answer.{RunNumbers}
 use Rattle.guarantees.specs.Run.{started as let-start, RefusedWith, InOrder, RefusedExactly}
 use Rattle.guarantees.proofs.Verdict.{Ended, Unrefused, unrefused, Verdict, out, misplaced, damaged, at-last, started, verdict}
 
@@ -62,12 +62,12 @@ module _ {R : Type 0} (refused : ℕ → R) (last : ℕ) (Goes : R → Type 0) (
 
 module _ (w j : List ℕ) where
   number-of : (n m : ℕ) → RefusedWith n w j (ran w j (Refused m)) → m ≡ n
-  number-of n m e = ap (λ (a : Numbers). a .number) (e .0)
+  number-of n m e = ap (λ (a : RunNumbers). a .number) (e .0)
 
   not-started : (n : ℕ) → let-start n ≡ false → (r : Ran) → Ended r → RefusedWith n w j r → ⊥
   not-started n z (ran v k a) h e =
       let s : Unrefused (ran v k a) = unrefused (ran v k a) h in
-      false≢true (sym z ∙ sym (ap (λ (b : Numbers). let-start (b .number)) (e .0)) ∙ s)
+      false≢true (sym z ∙ sym (ap (λ (b : RunNumbers). let-start (b .number)) (e .0)) ∙ s)
 
 pub refused-exactly : RefusedExactly runFrom
 refused-exactly from w j base f x used fuel =

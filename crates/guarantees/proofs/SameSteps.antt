@@ -12,23 +12,23 @@ use borrow.Author.Tests.{lt-ltb, ltb-true}
 use Rattle.table.specs.declared.slots.Slot.{Slot}
 use Rattle.table.specs.declared.slots.Node.{Node}
 use Rattle.table.specs.declared.slots.Node.the-variants.{Leaf, Stem, Fork}
-use Rattle.table.specs.declared.frames.Frame.{Frame}
-use Rattle.table.specs.declared.frames.Frame.the-variants.{Operand, Argument, Function}
+use Rattle.frames.specs.declared.Frame.{Frame}
+use Rattle.frames.specs.declared.Frame.the-variants.{Operand, Argument, Function}
 use Rattle.table.specs.Slots.{slot, room, nodeAt, putNode, Below, SameSlots}
-use Rattle.table.specs.Sound.{Sound}
-use Rattle.table.specs.Frames.{frameRoom, frameAt, putFrame, dropFrame, cleared}
+use Rattle.table.specs.Sound.{SlotsPass}
+use Rattle.frames.specs.Frames.{frameRoom, frameAt, putFrame, dropFrame, cleared}
 use Rattle.table.proofs.Tests.{by-test}
 use Rattle.table.proofs.SlotLaws.{room-put, same-node, same-put}
 use Rattle.table.proofs.SoundLaws.{slot-bounds}
-use Rattle.table.proofs.FrameLaws.{frame-room-long, length-put-frame, length-drop, length-cleared}
-use Rattle.table.proofs.FrameLaws.{frame-here, frame-other, frame-dropped}
-use Rattle.engine.specs.declared.step.State.{State}
-use Rattle.engine.specs.declared.step.Status.{Status}
-use Rattle.engine.specs.declared.step.Status.the-variants.{Going, Done, NoSlot, NoPlace}
-use Rattle.engine.specs.declared.step.Turn.{Turn}
-use Rattle.engine.specs.Rules.{Action, Make, Give, Go, Push, onArgument, onFork, onFunction, rule}
-use Rattle.engine.specs.Step.{Stepped, at, beside, meetFrame, meet, carry, step}
-use Rattle.engine.specs.Ready.{Ready, Waits}
+use Rattle.frames.proofs.FrameLaws.{frame-room-long, length-put-frame, length-drop, length-cleared}
+use Rattle.frames.proofs.FrameLaws.{frame-here, frame-other, frame-dropped}
+use Rattle.stepping.specs.declared.State.{State}
+use Rattle.stepping.specs.declared.Status.{Status}
+use Rattle.stepping.specs.declared.Status.the-variants.{Going, Done, OutOfSlots, OutOfPlaces}
+use Rattle.stepping.specs.declared.Turn.{Turn}
+use Rattle.stepping.specs.Rules.{SlotAction, Make, Give, Go, Push, onArgument, onFork, onFunction, slotRule}
+use Rattle.stepping.specs.Step.{Stepped, at, beside, meetFrame, meet, carry, step}
+use Rattle.stepping.specs.Ready.{Runnable, Waits}
 
 -- the same used slots, and at least the room
 pub record SameWords (w w′ : List ℕ) (used : ℕ) : Type 0 where
@@ -44,8 +44,8 @@ pub record SameFrames (j j′ : List ℕ) (waiting : ℕ) : Type 0 where
 abbrev pub Unless : Status → Type 0 → Type 0
 Unless Going A = A
 Unless Done A = A
-Unless NoSlot A = Unit {0}
-Unless NoPlace A = Unit {0}
+Unless OutOfSlots A = Unit {0}
+Unless OutOfPlaces A = Unit {0}
 
 -- the same turn, and tables that have the same used slots and waiting frames
 abbrev pub Same : List ℕ → List ℕ → Turn → Stepped → Type 0
@@ -57,7 +57,7 @@ Stays (at w j t) c = Unless (t .status) (Same w j t c)
 
 -- ---- the rules
 
-module _ (w w′ : List ℕ) (used : ℕ) (good : Sound w used) (same : SameWords w w′ used) where
+module _ (w w′ : List ℕ) (used : ℕ) (good : SlotsPass w used) (same : SameWords w w′ used) where
   module _ (x : Slot) (below : x .0 < used) where
     fork-same : (n : Node) (c : Slot) → onFork w n c x ≡ onFork w′ n c x
     unfolding onFork
@@ -73,8 +73,8 @@ module _ (w w′ : List ℕ) (used : ℕ) (good : Sound w used) (same : SameWord
         rw (← same-node w w′ (same .slots) (g .0) (omega arith)) (fork-same (nodeAt w (g .0)) c)
 
     -- a rule looks at used slots only
-    rule-same : (f : Slot) → f .0 < used → rule w f x ≡ rule w′ f x
-    unfolding rule
+    rule-same : (f : Slot) → f .0 < used → slotRule w f x ≡ slotRule w′ f x
+    unfolding slotRule
     rule-same f h =
         rw (← same-node w w′ (same .slots) (f .0) h)
         (function-same (f .0) (nodeAt w (f .0)) h (slot-bounds w used (good .sound) (f .0) h))
@@ -164,9 +164,9 @@ tested m l l′ r r′ z z′ h o k =
     (λ e. let g : m < l = ltb-true m l e in rw (lt-ltb m l′ (omega arith)) (k g))
     (λ _. o (cond (ltb m l′) r′ z′))
 
-module _ (w w′ j j′ : List ℕ) (s : State) (ready : Ready w s) (waits : Waits j (s .used) (s .waiting))
+module _ (w w′ j j′ : List ℕ) (s : State) (ready : Runnable w s) (waits : Waits j (s .used) (s .waiting))
     (words : SameWords w w′ (s .used)) (frames : SameFrames j j′ (s .waiting)) where
-  carry-stays : (a : Action) → Stays (carry w j s a) (carry w′ j′ s a)
+  carry-stays : (a : SlotAction) → Stays (carry w j s a) (carry w′ j′ s a)
   unfolding carry
   carry-stays (Make n) =
       tested (s .used) (room w) (room w′) _ _ _ _ (words .rooms) (λ c. tt)
@@ -184,4 +184,4 @@ module _ (w w′ j j′ : List ℕ) (s : State) (ready : Ready w s) (waits : Wai
   unfolding step
   step-stays =
       rw (← rule-same w w′ (s .used) (ready .slots) words (s .x) (ready .x) (s .f) (ready .f))
-      (carry-stays (rule w (s .f) (s .x)))
+      (carry-stays (slotRule w (s .f) (s .x)))

@@ -10,8 +10,8 @@ use lib.Seq.{drop-append-seam}
 use lib.IntN.{ℤ, pos}
 use borrow.Author.Tests.{ltb-true, ltb-false}
 use Rattle.calculus.specs.Tree.{Tree}
-use Rattle.calculus.specs.Rules.{Frame}
-use Rattle.calculus.specs.Machine.{Stop as Reason, no-fuel, no-slot, no-place, stopNumber, Outcome}
+use Rattle.calculus.specs.Rules.{TreeFrame}
+use Rattle.calculus.specs.Machine.{Stop as Reason, out-of-fuel, out-of-slots, out-of-places, stopNumber, Outcome}
 use Rattle.table.specs.Slots.{room}
 use Rattle.table.specs.Holds.{Holds}
 use Rattle.table.proofs.Tests.{by-test}
@@ -21,12 +21,12 @@ use Rattle.engine.specs.declared.RunAnswer.{RunAnswer}
 use Rattle.engine.specs.Run.{Ran, ran}
 use Rattle.engine.specs.declared.From.{From}
 use Rattle.engine.specs.declared.From.the-variants.{Scratch, Stop}
-use Rattle.engine.specs.Answer.{Numbers, numbers}
+use Rattle.engine.specs.Answer.{RunNumbers, runNumbers}
 use Rattle.guarantees.specs.Agrees.{Leaves, Agrees, agrees-done, agrees-stop}
 use Rattle.guarantees.specs.Run.{RunCall, Calls, TooMany, SimulatesFrom, RunSimulates, RefusedFrom, RefusedExactly, RefusedWith, started}
 use Rattle.guarantees.specs.Run.{OutOfTable, base-past, none-used, above-room, Misplaced, Damaged}
-use Rattle.guarantees.specs.Session.{ToRun, Request, to-run, Bring, Found, found, Reply, refused, answered}
-use Rattle.guarantees.specs.Session.{framesIn, tooMany, replyTo, reply, storeAfter, Table, answer, tableAfter}
+use Rattle.guarantees.specs.Session.{ToRun, Request, to-run, Bring, Lookup, found, Reply, refused, answered}
+use Rattle.guarantees.specs.Session.{framesIn, tooMany, replyTo, reply, storeAfter, Table, called, tableAfter}
 use Rattle.guarantees.specs.Session.{Alike, alike-refused, alike-answered, Holding, AllAlike, SessionSimulates}
 use Rattle.guarantees.proofs.RunSimulates.{unharmed}
 use Rattle.guarantees.proofs.Verdict.{used-placed}
@@ -34,11 +34,11 @@ use Rattle.guarantees.proofs.JobsIn.{PlaceSeen, held, unplaced, place-s
 
 module _ {w j v k : List ℕ} {n : ℕ} where
   -- a run that agrees answers a used count that grows by the nodes made, and leaves the tables so
-  pub used-grows : {a : Numbers} {o : Outcome} → Agrees w n j v k a o → a .used ≡ n + length (o .made)
+  pub used-grows : {a : RunNumbers} {o : Outcome} → Agrees w n j v k a o → a .used ≡ n + length (o .made)
   used-grows (agrees-done h l) = refl
   used-grows (agrees-stop f x s l) = refl
 
-  leaves : {a : Numbers} {o : Outcome} → Agrees w n j v k a o
+  leaves : {a : RunNumbers} {o : Outcome} → Agrees w n j v k a o
       → (waiting : ℕ) × Leaves w n j v (n + length (o .made)) k (o .made) waiting
   leaves (agrees-done h l) = (0, l)
   leaves (agrees-stop {frames = frames} f x s l) = (length frames, l)
@@ -59,11 +59,11 @@ module _ {w j v k : List ℕ} {n : ℕ} where
 
 -- a run that agrees was let start
 stop-starts : (why : Reason) → started (stopNumber why) ≡ true
-stop-starts no-fuel = refl
-stop-starts no-slot = refl
-stop-starts no-place = refl
+stop-starts out-of-fuel = refl
+stop-starts out-of-slots = refl
+stop-starts out-of-places = refl
 
-pub agrees-starts : {w j v k : List ℕ} {n : ℕ} {a : Numbers} {o : Outcome} → Agrees w n j v k a o → started (a .number) ≡ true
+pub agrees-starts : {w j v k : List ℕ} {n : ℕ} {a : RunNumbers} {o : Outcome} → Agrees w n j v k a o → started (a .number) ≡ true
 agrees-starts (agrees-done h l) = refl
 agrees-starts (agrees-stop {why = why} f x s l) = stop-starts why
 
@@ -111,7 +111,7 @@ module _ (w : List ℕ) (n : ℕ) (store : List Tree) (good : Holding w n store)
           same-room = ap room d;
         }
 
-    goes-answered : (v k : List ℕ) (a : RunAnswer) (o : Outcome) → Agrees w n (c .jobs) v k (numbers a) o
+    goes-answered : (v k : List ℕ) (a : RunAnswer) (o : Outcome) → Agrees w n (c .jobs) v k (runNumbers a) o
         → Goes b (to-run c) (ran (c .before ++ v) k a) (answered o)
     goes-answered v k a o h =
         let l = leaves h .1 in
@@ -139,7 +139,7 @@ module _ (w : List ℕ) (n : ℕ) (store : List Tree) (good : Holding w n store)
         well : Misplaced n (pos i) ⊎ Misplaced n (pos m) → ⊥
         well = ⊎-elim (used-placed refl (held-below hf)) (used-placed refl (held-below hx))
 
-        goes-placed : (p : Found (List Frame)) → FramesSeen w n store good (c .from) (c .jobs) p
+        goes-placed : (p : Lookup (List TreeFrame)) → FramesSeen w n store good (c .from) (c .jobs) p
             → Goes b (to-run c) (left (pos i) (pos m)) (replyTo c (room w - length store) (found ft) (found xt) p)
         goes-placed p (harmed h) =
             let x = refuses (c .before ++ w) (c .jobs) (pos b) (pos i) (pos m) n (c .fuel) in
@@ -158,8 +158,8 @@ module _ (w : List ℕ) (n : ℕ) (store : List Tree) (good : Holding w n store)
             rw (good .long, s .3) (goes-answered (s .0) (s .1) (s .2) _ (s .4)))
 
       -- whatever f and x are
-      goes-at : {z y : ℤ} {p q : Found Tree} → PlaceSeen w n store good z p → PlaceSeen w n store good y q
-          → (r : Found (List Frame)) → FramesSeen w n store good (c .from) (c .jobs) r
+      goes-at : {z y : ℤ} {p q : Lookup Tree} → PlaceSeen w n store good z p → PlaceSeen w n store good y q
+          → (r : Lookup (List TreeFrame)) → FramesSeen w n store good (c .from) (c .jobs) r
           → Goes b (to-run c) (left z y) (replyTo c (room w - length store) p q r)
       goes-at (held hf) (held hx) r h = goes-placed hf hx r h
       goes-at {z} {y} (held hf) (unplaced m) r h = goes-misplaced z y (inr m)
@@ -179,7 +179,7 @@ module _ (call : Calls) (refuses : RefusedExactly call) (simulates : RunSimulate
       let long : length (c .before) ≡ b = bring .0 in
       let g = rw long at (goes w n store good c (call (c .from)) (refuses (c .from)) (simulates (c .from))) in
       let t : Table = record { words = w; used = n } in
-      let t′ = tableAfter b t (answer call b t (to-run c)) in
+      let t′ = tableAfter b t (called call b t (to-run c)) in
       rw e (
         g .alike,
         all-alike cs (t′ .words) (t′ .used) (room w) (storeAfter store (reply (room w) store (to-run c))) (g .holding)

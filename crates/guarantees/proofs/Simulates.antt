@@ -10,48 +10,49 @@ use borrow.Author.Tests.{lt-ltb, le-ltb}
 use lib.ListN.{length, length-append, length-reverse}
 use lib.IntN.{pos}
 use Rattle.calculus.specs.Tree.{Tree, leaf, stem, fork}
-use Rattle.calculus.specs.Rules.{Frame, operand, argument, function, Action as Asked, make, give, go, push}
+use Rattle.calculus.specs.Rules.{TreeFrame, operand, argument, function, TreeAction as Asked, make, give, go, push}
 use Rattle.calculus.specs.Rules as trees
-use Rattle.calculus.specs.Machine.{Stop, no-fuel, no-slot, no-place, stopNumber, ended, stopped, Outcome}
+use Rattle.calculus.specs.Machine.{Stop, out-of-fuel, out-of-slots, out-of-places, stopNumber, ended, stopped, Outcome}
 use Rattle.calculus.specs.Machine as machine
 use Rattle.table.specs.declared.slots.Node.{Node}
 use Rattle.table.specs.declared.slots.Node.the-variants.{Leaf, Stem, Fork}
-use Rattle.table.specs.declared.frames.Frame.{Frame as Job}
-use Rattle.table.specs.declared.frames.Frame.the-variants.{Operand, Argument, Function}
+use Rattle.frames.specs.declared.Frame.{Frame as Job}
+use Rattle.frames.specs.declared.Frame.the-variants.{Operand, Argument, Function}
 use Rattle.table.specs.Slots.{slot, room, firstWord, putNode, Below}
-use Rattle.table.specs.Sound.{Sound}
-use Rattle.table.specs.Frames.{frameRoom, Record, recordOf, recordAt, putFrame, dropFrame}
-use Rattle.table.specs.Holds.{Holds, HoldsFrom, Kept, Untouched, StandFrom, ZeroFrom}
-use Rattle.table.specs.Holds.{Stands, stands-operand, stands-argument, stands-function}
+use Rattle.table.specs.Sound.{SlotsPass}
+use Rattle.frames.specs.Frames.{frameRoom, Record, recordOf, jobWordsAt, putFrame, dropFrame}
+use Rattle.table.specs.Holds.{Holds, HoldsFrom, Kept, Untouched}
+use Rattle.frames.specs.Stand.{StandFrom, ZeroFrom}
+use Rattle.frames.specs.Stand.{Stands, stands-operand, stands-argument, stands-function}
 use Rattle.table.proofs.SlotLaws.{room-long}
 use Rattle.table.proofs.SoundLaws.{slots-sound, sound-next}
-use Rattle.table.proofs.FrameLaws.{frame-room-long, frame-is, length-put-frame, record-here, record-other, zero-over}
-use Rattle.table.proofs.FrameLaws.{length-drop, record-dropped, zero-drop, stands-kept}
+use Rattle.frames.proofs.FrameLaws.{frame-room-long, frame-is, length-put-frame, record-here, record-other, zero-over}
+use Rattle.frames.proofs.FrameLaws.{length-drop, record-dropped, zero-drop, stands-kept}
 use Rattle.table.proofs.HoldsLaws.{held-below, leaf-view, stem-view, fork-view, put-stem, put-fork}
 use Rattle.table.proofs.HoldsLaws.{zero-leaf, from-kept, from-append, untouched-refl, untouched-put, untouched-trans}
 use Rattle.table.proofs.HoldsLaws.{untouched-kept}
-use Rattle.engine.specs.declared.step.State.{State}
-use Rattle.engine.specs.declared.step.Status.the-variants.{Going, Done as IsDone, NoSlot, NoPlace}
+use Rattle.stepping.specs.declared.State.{State}
+use Rattle.stepping.specs.declared.Status.the-variants.{Going, Done as IsDone, OutOfSlots, OutOfPlaces}
 use Rattle.engine.specs.declared.RunAnswer.the-variants.{Done, Stopped}
-use Rattle.engine.specs.Rules.{Action, Make, Give, Go, Push, rule, onFunction, onFork, onArgument}
-use Rattle.engine.specs.Step.{Stepped, at, beside, meetFrame, meet, carry, step}
+use Rattle.stepping.specs.Rules.{SlotAction, Make, Give, Go, Push, slotRule, onFunction, onFork, onArgument}
+use Rattle.stepping.specs.Step.{Stepped, at, beside, meetFrame, meet, carry, step}
 use Rattle.engine.specs.Run.{Ran, ran, resume, drive}
 use Rattle.engine.specs.Run as engine
-use Rattle.engine.specs.Answer.{Numbers, numbers}
+use Rattle.engine.specs.Answer.{RunNumbers, runNumbers}
 use Rattle.guarantees.specs.Agrees.{Leaves, Agrees, agrees-done, agrees-stop}
 use Rattle.guarantees.specs.Run.{later}
 
 -- ---- the waiting frames
 
 -- the places below k stand for these frames, newest first
-abbrev pub FramesHold : List ℕ → ℕ → List ℕ → ℕ → List Frame → Type 0
+abbrev pub FramesHold : List ℕ → ℕ → List ℕ → ℕ → List TreeFrame → Type 0
 FramesHold w n j zero [] = Unit {0}
 FramesHold w n j zero (f ∷ fs) = ⊥
 FramesHold w n j (suc k) [] = ⊥
-FramesHold w n j (suc k) (f ∷ fs) = Stands w n (recordAt j k) f × FramesHold w n j k fs
+FramesHold w n j (suc k) (f ∷ fs) = Stands w n (jobWordsAt j k) f × FramesHold w n j k fs
 
 module _ (w : List ℕ) (n : ℕ) (j : List ℕ) where
-  pub frames-count : (k : ℕ) (fs : List Frame) → FramesHold w n j k fs → length fs ≡ k
+  pub frames-count : (k : ℕ) (fs : List TreeFrame) → FramesHold w n j k fs → length fs ≡ k
   frames-count zero [] h = refl
   frames-count zero (f ∷ fs) h = absurd h
   frames-count (suc k) [] h = absurd h
@@ -59,14 +60,14 @@ module _ (w : List ℕ) (n : ℕ) (j : List ℕ) where
 
   -- they stay where the trees are kept
   frames-kept : {v : List ℕ} {m : ℕ} → Kept w n v m →
-      (k : ℕ) (fs : List Frame) → FramesHold w n j k fs → FramesHold v m j k fs
+      (k : ℕ) (fs : List TreeFrame) → FramesHold w n j k fs → FramesHold v m j k fs
   frames-kept kept zero [] h = tt
   frames-kept kept zero (f ∷ fs) h = absurd h
   frames-kept kept (suc k) [] h = absurd h
-  frames-kept kept (suc k) (f ∷ fs) h = (stands-kept kept (recordAt j k) f (h .0), frames-kept kept k fs (h .1))
+  frames-kept kept (suc k) (f ∷ fs) h = (stands-kept kept (jobWordsAt j k) f (h .0), frames-kept kept k fs (h .1))
 
   -- they stay where the places below k keep their words
-  frames-same : (i : List ℕ) (k : ℕ) (fs : List Frame) → ((l : ℕ) → l < k → recordAt i l ≡ recordAt j l) →
+  frames-same : (i : List ℕ) (k : ℕ) (fs : List TreeFrame) → ((l : ℕ) → l < k → jobWordsAt i l ≡ jobWordsAt j l) →
       FramesHold w n j k fs → FramesHold w n i k fs
   frames-same i zero [] e h = tt
   frames-same i zero (f ∷ fs) e h = absurd h
@@ -76,7 +77,7 @@ module _ (w : List ℕ) (n : ℕ) (j : List ℕ) where
     frames-same i k fs (λ l b. e l (omega arith)) (h .1),
   )
 
-  stand-snoc : (k : ℕ) (fs : List Frame) (f : Frame) → StandFrom w n j k fs → Stands w n (recordAt j (k + length fs)) f →
+  stand-snoc : (k : ℕ) (fs : List TreeFrame) (f : TreeFrame) → StandFrom w n j k fs → Stands w n (jobWordsAt j (k + length fs)) f →
       StandFrom w n j k (fs ++ (f ∷ []))
   stand-snoc k [] f h g = let e : k + 0 ≡ k = omega arith in (rw e at g, tt)
   stand-snoc k (a ∷ fs) f h g =
@@ -84,7 +85,7 @@ module _ (w : List ℕ) (n : ℕ) (j : List ℕ) where
       (h .0, stand-snoc (suc k) fs f (h .1) (rw e at g))
 
   -- the same frames, oldest first
-  pub frames-turned : (k : ℕ) (fs : List Frame) → FramesHold w n j k fs → StandFrom w n j 0 (reverse fs)
+  pub frames-turned : (k : ℕ) (fs : List TreeFrame) → FramesHold w n j k fs → StandFrom w n j 0 (reverse fs)
   frames-turned zero [] h = tt
   frames-turned zero (f ∷ fs) h = absurd h
   frames-turned (suc k) [] h = absurd h
@@ -92,8 +93,8 @@ module _ (w : List ℕ) (n : ℕ) (j : List ℕ) where
       let e : 0 + length (reverse fs) ≡ k = omega (arith, length-reverse fs, frames-count k fs (h .1)) in
       rw (reverse-cons f fs) (stand-snoc 0 (reverse fs) f (frames-turned k fs (h .1)) (rw e (h .0)))
 
-  stand-unsnoc : (k : ℕ) (fs : List Frame) (f : Frame) → StandFrom w n j k (fs ++ (f ∷ [])) →
-      StandFrom w n j k fs × Stands w n (recordAt j (k + length fs)) f
+  stand-unsnoc : (k : ℕ) (fs : List TreeFrame) (f : TreeFrame) → StandFrom w n j k (fs ++ (f ∷ [])) →
+      StandFrom w n j k fs × Stands w n (jobWordsAt j (k + length fs)) f
   stand-unsnoc k [] f h = let e : k + 0 ≡ k = omega arith in (tt, rw e (h .0))
   stand-unsnoc k (a ∷ fs) f h =
       let e : k + suc (length fs) ≡ suc k + length fs = omega arith in
@@ -101,7 +102,7 @@ module _ (w : List ℕ) (n : ℕ) (j : List ℕ) where
       ((h .0, hs), rw e g)
 
   -- and back: frames that stand oldest first, newest first
-  pub frames-back : (fs : List Frame) → StandFrom w n j 0 (reverse fs) → FramesHold w n j (length fs) fs
+  pub frames-back : (fs : List TreeFrame) → StandFrom w n j 0 (reverse fs) → FramesHold w n j (length fs) fs
   frames-back [] h = tt
   frames-back (f ∷ fs) h =
       let (hs, g) = stand-unsnoc 0 (reverse fs) f (rw (reverse-cons f fs) at h) in
@@ -111,8 +112,8 @@ module _ (w : List ℕ) (n : ℕ) (j : List ℕ) where
 -- ---- what stands for what
 
 -- the tables and the state stand for a state of the machine
-pub record Sim (w j : List ℕ) (s : State) (p : machine.State) : Type 0 where
-  pub slots : Sound w (s .used)
+pub record Sim (w j : List ℕ) (s : State) (p : machine.MachineState) : Type 0 where
+  pub slots : SlotsPass w (s .used)
   pub f : Holds w (s .used) (s .f .0) (p .f)
   pub x : Holds w (s .used) (s .x .0) (p .x)
   pub frames : FramesHold w (s .used) j (s .waiting) (p .frames)
@@ -134,7 +135,7 @@ grown-one w n node t h =
     record { count = omega arith; new = (h, tt); untouched = untouched-put w n node }
 
 -- a table that has grown, sound, with no frame written or dropped
-leaves-here : {w v : List ℕ} {n m : ℕ} {made : List Tree} (j : List ℕ) {waiting : ℕ} → Grown w n v m made → Sound v m →
+leaves-here : {w v : List ℕ} {n m : ℕ} {made : List Tree} (j : List ℕ) {waiting : ℕ} → Grown w n v m made → SlotsPass v m →
     0 < m → waiting ≤ frameRoom j → ZeroFrom j waiting → Leaves w n j v m j made waiting
 leaves-here {v = v} {m = m} j grown good some places above =
     let slots = slots-sound v m .0 good in
@@ -151,18 +152,18 @@ leaves-here {v = v} {m = m} j grown good some places above =
 -- ---- a rule
 
 -- what slots ask for stands for what trees ask for
-data Asks (w : List ℕ) (n : ℕ) : Action → Asked → Type 0 where
+data Asks (w : List ℕ) (n : ℕ) : SlotAction → Asked → Type 0 where
   asks-make : {node : Node} {t : Tree} → Below n node → (node ≡ Leaf → ⊥)
       → (n < room w → Holds (putNode w n node) (n + 1) n t)
       → Asks w n (Make node) (make t)
   asks-give : {i : ℕ} {t : Tree} → Holds w n i t → Asks w n (Give (slot i)) (give t)
   asks-go : {i k : ℕ} {f x : Tree} → Holds w n i f → Holds w n k x → Asks w n (Go (slot i) (slot k)) (go f x)
-  asks-push : {i k : ℕ} {f x : Tree} {job : Job} {j : Frame} → Holds w n i f → Holds w n k x
+  asks-push : {i k : ℕ} {f x : Tree} {job : Job} {j : TreeFrame} → Holds w n i f → Holds w n k x
       → Stands w n (recordOf job) j → Asks w n (Push (slot i) (slot k) job) (push f x j)
 
 module _ (w : List ℕ) (n : ℕ) where
-  asks : (f x : Tree) (i k : ℕ) → Holds w n i f → Holds w n k x → Asks w n (rule w (slot i) (slot k)) (trees.rule f x)
-  unfolding rule onFunction onFork onArgument trees.rule
+  asks : (f x : Tree) (i k : ℕ) → Holds w n i f → Holds w n k x → Asks w n (slotRule w (slot i) (slot k)) (trees.treeRule f x)
+  unfolding slotRule onFunction onFork onArgument trees.treeRule
   asks leaf x i k hf hx =
       rw (leaf-view hf)
       (asks-make {node = Stem (slot k)} (held-below hx)
@@ -197,22 +198,22 @@ module _ (w : List ℕ) (n : ℕ) where
 -- ---- a step
 
 -- what a step from s leaves stands for what the machine's step leaves
-pub data Turns (w j : List ℕ) (s : State) : Stepped → machine.Turn → Type 0 where
-  turns-going : {v k : List ℕ} {next : State} {made : List Tree} {p : machine.State}
+pub data Turns (w j : List ℕ) (s : State) : Stepped → machine.MachineTurn → Type 0 where
+  turns-going : {v k : List ℕ} {next : State} {made : List Tree} {p : machine.MachineState}
       → Grown w (s .used) v (next .used) made → length k ≡ length j → Sim v k next p
       → Turns w j s (at v k (record { status = Going; state = next })) (machine.going made p)
   turns-done : {v k : List ℕ} {next : State} {made : List Tree} {t : Tree}
       → next .used ≡ s .used + length made → Leaves w (s .used) j v (next .used) k made 0
       → Holds v (next .used) (next .f .0) t
       → Turns w j s (at v k (record { status = IsDone; state = next })) (machine.done made t)
-  turns-no-slot : Turns w j s (at w j (record { status = NoSlot; state = s })) (machine.stop no-slot)
-  turns-no-place : Turns w j s (at w j (record { status = NoPlace; state = s })) (machine.stop no-place)
+  turns-no-slot : Turns w j s (at w j (record { status = OutOfSlots; state = s })) (machine.stop out-of-slots)
+  turns-no-place : Turns w j s (at w j (record { status = OutOfPlaces; state = s })) (machine.stop out-of-places)
 
 -- a frame at place k, the last, is written or goes, and slot f is to be applied to slot x
-module _ {w : List ℕ} {n f x : ℕ} {ft xt : Tree} (good : Sound w n) (hf : Holds w n f ft) (hx : Holds w n x xt)
-    (j : List ℕ) (k : ℕ) (fs : List Frame) (h : FramesHold w n j k fs) (l : k < frameRoom j)
+module _ {w : List ℕ} {n f x : ℕ} {ft xt : Tree} (good : SlotsPass w n) (hf : Holds w n f ft) (hx : Holds w n x xt)
+    (j : List ℕ) (k : ℕ) (fs : List TreeFrame) (h : FramesHold w n j k fs) (l : k < frameRoom j)
     (z : ZeroFrom j (suc k)) where
-  written : (job : Job) (a : Frame) → Stands w n (recordOf job) a →
+  written : (job : Job) (a : TreeFrame) → Stands w n (recordOf job) a →
       Sim w (putFrame j k job) (record { f = slot f; x = slot x; used = n; waiting = suc k })
       (record { f = ft; x = xt; frames = a ∷ fs })
   written job a stands =
@@ -242,10 +243,10 @@ module _ {w : List ℕ} {n f x : ℕ} {ft xt : Tree} (good : Sound w n) (hf : Ho
 
 -- the tree of slot i, in a table that has grown, meets the newest frame
 module _ (w j : List ℕ) (s : State) (v : List ℕ) (m : ℕ) (made : List Tree) (grown : Grown w (s .used) v m made)
-    (good : Sound v m) (i : ℕ) (t : Tree) (held : Holds v m i t) where
-  meets : (k : ℕ) (fs : List Frame) → FramesHold v m j k fs → k ≤ frameRoom j → ZeroFrom j k →
-      Turns w j s (beside v (meet j (slot i) m k)) (machine.meet made t fs)
-  unfolding meet meetFrame machine.meet
+    (good : SlotsPass v m) (i : ℕ) (t : Tree) (held : Holds v m i t) where
+  meets : (k : ℕ) (fs : List TreeFrame) → FramesHold v m j k fs → k ≤ frameRoom j → ZeroFrom j k →
+      Turns w j s (beside v (meet j (slot i) m k)) (machine.machineMeet made t fs)
+  unfolding meet meetFrame machine.machineMeet
   meets zero [] h l z =
       turns-done (grown .count) (leaves-here j grown good (omega (arith, held-below held)) l z) held
   meets zero (f ∷ fs) h l z = absurd h
@@ -259,10 +260,10 @@ module _ (w j : List ℕ) (s : State) (v : List ℕ) (m : ℕ) (made : List Tree
   meets (suc k) (function y ∷ fs) (stands-function {a = a} e ha, hs) l z =
       rw (frame-is j k (Function (slot a)) e) (turns-going grown (length-drop j k) (dropped good ha held j k fs hs l z))
 
-module _ (w j : List ℕ) (s : State) (p : machine.State) (sim : Sim w j s p) where
-  carries : (a : Action) (b : Asked) → Asks w (s .used) a b →
-      Turns w j s (carry w j s a) (machine.carry (room w - s .used) (frameRoom j) (p .frames) b)
-  unfolding carry machine.carry
+module _ (w j : List ℕ) (s : State) (p : machine.MachineState) (sim : Sim w j s p) where
+  carries : (a : SlotAction) (b : Asked) → Asks w (s .used) a b →
+      Turns w j s (carry w j s a) (machine.machineCarry (room w - s .used) (frameRoom j) (p .frames) b)
+  unfolding carry machine.machineCarry
   carries a b (asks-make {node = node} {t = t} below inner put) =
       let n = s .used in
       elim (decLt n (room w)) [
@@ -306,32 +307,32 @@ module _ (w j : List ℕ) (s : State) (p : machine.State) (sim : Sim w j s p) wh
       ]
 
   -- a step
-  pub steps : Turns w j s (step w j s) (machine.step (room w - s .used) (frameRoom j) p)
-  unfolding step machine.step
+  pub steps : Turns w j s (step w j s) (machine.machineStep (room w - s .used) (frameRoom j) p)
+  unfolding step machine.machineStep
   steps =
-      carries (rule w (s .f) (s .x)) (trees.rule (p .f) (p .x))
+      carries (slotRule w (s .f) (s .x)) (trees.treeRule (p .f) (p .x))
       (asks w (s .used) (p .f) (p .x) (s .f .0) (s .x .0) (sim .f) (sim .x))
 
 -- ---- a run
 
 -- what a run leaves and answers agrees with an outcome
 abbrev pub Comes : List ℕ → ℕ → List ℕ → Ran → Outcome → Type 0
-Comes w n j (ran v k a) o = Agrees w n j v k (numbers a) o
+Comes w n j (ran v k a) o = Agrees w n j v k (runNumbers a) o
 
 -- the two ways to agree, for a used count and a number of frames that are known to be the right ones
 module _ {w j v k : List ℕ} {n m steps : ℕ} {made : List Tree} (e : m ≡ n + length made) where
   done-agrees : {slot : ℕ} {t : Tree} → Holds v m slot t → Leaves w n j v m k made 0 →
-      Agrees w n j v k (numbers (Done (pos slot) steps m)) (record { ending = ended t; steps = steps; made = made })
+      Agrees w n j v k (runNumbers (Done (pos slot) steps m)) (record { ending = ended t; steps = steps; made = made })
   done-agrees h l = rw e (agrees-done (rw e at h) (rw e at l))
 
-  stop-agrees : {f x waiting : ℕ} {why : Stop} {ft xt : Tree} {frames : List Frame} → waiting ≡ length frames →
+  stop-agrees : {f x waiting : ℕ} {why : Stop} {ft xt : Tree} {frames : List TreeFrame} → waiting ≡ length frames →
       Holds v m f ft → Holds v m x xt → StandFrom v m k 0 frames → Leaves w n j v m k made waiting →
-      Agrees w n j v k (numbers (Stopped (stopNumber why) (pos f) (pos x) steps m waiting))
+      Agrees w n j v k (runNumbers (Stopped (stopNumber why) (pos f) (pos x) steps m waiting))
       (record { ending = stopped why ft xt frames; steps = steps; made = made })
   stop-agrees d hf hx stand l = rw (e, d) (agrees-stop (rw e at hf) (rw e at hx) (rw e at stand) (rw (e, d) at l))
 
 -- a run that stops here
-stops : (w j : List ℕ) (s : State) (p : machine.State) → Sim w j s p → (why : Stop) (k : ℕ) →
+stops : (w j : List ℕ) (s : State) (p : machine.MachineState) → Sim w j s p → (why : Stop) (k : ℕ) →
     Comes w (s .used) j (ran w j (engine.stopped (stopNumber why) s k)) (later k (machine.halted why p))
 stops w j s p sim why k =
     let n = s .used in
@@ -342,7 +343,7 @@ stops w j s p sim why k =
     (stop-agrees (omega arith) d (sim .f) (sim .x) (frames-turned w n j (s .waiting) (p .frames) (sim .frames))
     (leaves-here j (grown-none w n) (sim .slots) (omega (arith, held-below (sim .f))) (sim .fits) (sim .above)))
 
--- a step that has made these nodes, and what the run behind it leaves and comes to
+-- a step that has made these nodes, and what the run after it leaves and comes to
 module _ (w j v k : List ℕ) (n m : ℕ) (made : List Tree) (grown : Grown w n v m made) (long : length k ≡ length j) where
   leaves-on : (u i : List ℕ) (q waiting : ℕ) (more : List Tree) → m ≤ q → Leaves v m k u q i more waiting →
       Leaves w n j u q i (made ++ more) waiting
@@ -357,7 +358,7 @@ module _ (w j v k : List ℕ) (n m : ℕ) (made : List Tree) (grown : Grown w n 
         above = l .above;
       }
 
-  agrees-on : (u i : List ℕ) (a : Numbers) (o : Outcome) → Agrees v m k u i a o →
+  agrees-on : (u i : List ℕ) (a : RunNumbers) (o : Outcome) → Agrees v m k u i a o →
       Agrees w n j u i a (record { ending = o .ending; steps = o .steps; made = made ++ o .made })
   agrees-on u i a o (agrees-done {made = more} h l) =
       let e : m + length more ≡ n + length (made ++ more) = simp length-append (omega (arith, grown .count)) in
@@ -368,7 +369,7 @@ module _ (w j v k : List ℕ) (n m : ℕ) (made : List Tree) (grown : Grown w n 
 
   comes-on : (r : Ran) (o : Outcome) → Comes v m k r o →
       Comes w n j r (record { ending = o .ending; steps = o .steps; made = made ++ o .made })
-  comes-on (ran u i a) o h = agrees-on u i (numbers a) o h
+  comes-on (ran u i a) o h = agrees-on u i (runNumbers a) o h
 
 -- of a frame table only the length counts
 pub comes-long : (w j k : List ℕ) (n : ℕ) → length k ≡ length j → (r : Ran) (o : Outcome) →
@@ -379,12 +380,12 @@ comes-long w j k n long r o h = comes-on w j w k n n [] (grown-none w n) long r 
 -- frames and all
 abbrev pub DriveSimulates : ℕ → Type 0
 DriveSimulates fuel =
-    (k : ℕ) (w j : List ℕ) (s : State) (p : machine.State) → Sim w j s p →
+    (k : ℕ) (w j : List ℕ) (s : State) (p : machine.MachineState) → Sim w j s p →
     Comes w (s .used) j (drive fuel k w j s) (later k (machine.run fuel (room w - s .used) (frameRoom j) p))
 
-module _ (fuel : ℕ) (drives : DriveSimulates fuel) (k : ℕ) (w j : List ℕ) (s : State) (p : machine.State)
+module _ (fuel : ℕ) (drives : DriveSimulates fuel) (k : ℕ) (w j : List ℕ) (s : State) (p : machine.MachineState)
     (sim : Sim w j s p) where
-  resumes : (c : Stepped) (t : machine.Turn) → Turns w j s c t →
+  resumes : (c : Stepped) (t : machine.MachineTurn) → Turns w j s c t →
       Comes w (s .used) j (resume (drive fuel) k s c)
       (later k (machine.proceed (machine.run fuel) (room w - s .used) (frameRoom j) p t))
   resumes c t (turns-going {v = v} {k = i} {next = next} {made = made} {p = q} grown long sim′) =
@@ -397,13 +398,13 @@ module _ (fuel : ℕ) (drives : DriveSimulates fuel) (k : ℕ) (w j : List ℕ) 
       (comes-on w j v i (s .used) (next .used) made grown long (drive fuel (suc k) v i next) (later (suc k) o)
       (drives (suc k) v i next q sim′))
   resumes c t (turns-done e l h) = rw (← add-one k) (done-agrees e h l)
-  resumes c t turns-no-slot = stops w j s p sim no-slot k
-  resumes c t turns-no-place = stops w j s p sim no-place k
+  resumes c t turns-no-slot = stops w j s p sim out-of-slots k
+  resumes c t turns-no-place = stops w j s p sim out-of-places k
 
 -- a run on the two tables is the machine's
 pub drive-simulates : (fuel : ℕ) → DriveSimulates fuel
 unfolding drive machine.run
-drive-simulates zero k w j s p sim = stops w j s p sim no-fuel k
+drive-simulates zero k w j s p sim = stops w j s p sim out-of-fuel k
 drive-simulates (suc fuel) k w j s p sim =
     resumes fuel (drive-simulates fuel) k w j s p sim (step w j s)
-    (machine.step (room w - s .used) (frameRoom j) p) (steps w j s p sim)
+    (machine.machineStep (room w - s .used) (frameRoom j) p) (steps w j s p sim)

@@ -12,16 +12,17 @@ use lib.IntN.{ℤ, pos}
 use Rattle.calculus.specs.Machine.{Outcome}
 use Rattle.table.specs.Slots.{slot}
 use Rattle.table.proofs.SoundLaws.{slots-sound}
-use Rattle.table.proofs.SoundFrames.{standing-sound}
+use Rattle.frames.proofs.SoundFrames.{standing-sound}
 use Rattle.engine.specs.declared.RunAnswer.{RunAnswer}
-use Rattle.engine.specs.Run.{Ran, ran, drive, runTail, behind, maxSteps, runFrom}
+use Rattle.engine.specs.Admission.{maxSteps}
+use Rattle.engine.specs.Run.{Ran, ran, drive, stateFrom, ranWith, runFrom}
 use Rattle.engine.specs.declared.From.{From}
 use Rattle.engine.specs.declared.From.the-variants.{Stop}
-use Rattle.engine.specs.Answer.{Numbers, numbers}
+use Rattle.engine.specs.Answer.{RunNumbers, runNumbers}
 use Rattle.guarantees.specs.Agrees.{Agrees, agrees-done, agrees-stop}
 use Rattle.guarantees.specs.Run.{started as let-start, RefusedWith}
 use Rattle.guarantees.specs.Onward.{numbersOf, MayGoOn, StopsCarryOn}
-use Rattle.guarantees.proofs.Calls.{stateFrom, go-too-many, run-behind}
+use Rattle.guarantees.proofs.Calls.{go-too-many, run-behind}
 use Rattle.guarantees.proofs.RunSimulates.{admitted, starts, run-simulates}
 use Rattle.guarantees.proofs.Verdict.{Ended, unrefused, drive-ended}
 use Rattle.guarantees.proofs.Verdict.{out, misplaced, damaged, at-last, started, Judged, verdict}
@@ -31,15 +32,14 @@ use Rattle.guarantees.proofs.Begins.{Begins, begins, comes}
 abbrev LetOn : List ℕ → List ℕ → Ran → Type 0
 LetOn w j r = (let-start (numbersOf r .number) ≡ true) ⊎ RefusedWith 40 w j r
 
-started-on : (before : List ℕ) (r : Ran) → Ended r → let-start (numbersOf (behind before r) .number) ≡ true
+started-on : (before : List ℕ) (r : Ran) → Ended r → let-start (numbersOf (ranWith before r) .number) ≡ true
 started-on before (ran w j a) h = unrefused (ran w j a) h
 
 -- what agrees with the machine and is stopped
-agrees-on : {w j v k : List ℕ} {n : ℕ} {a : Numbers} {o : Outcome} → Agrees w n j v k a o → 31 ≤ a .number
+agrees-on : {w j v k : List ℕ} {n : ℕ} {a : RunNumbers} {o : Outcome} → Agrees w n j v k a o → 31 ≤ a .number
     → (more : ℕ) (before : List ℕ)
     → LetOn (before ++ v) k
     (runFrom (Stop (a .waiting) (a .steps)) (before ++ v) (pos (length before)) (a .f) (a .x) (a .used) more k)
-unfolding runTail
 agrees-on (agrees-done h l) g more before = absurd (omega arith)
 agrees-on {v = v} {k = k} {n = n}
     (agrees-stop {f = f} {x = x} {steps = steps} {ft = ft} {xt = xt} {frames = frames} {made = made} hf hx stand l) g more before =
@@ -51,7 +51,7 @@ agrees-on {v = v} {k = k} {n = n}
     rw (run-behind from before v k (pos f) (pos x) used more)
     (elim (decLt maxSteps (steps + more)) [
       | yes h ↦
-          rw (admitted v used f x good hf hx, go-too-many from v more k (slot f) (slot x) used (λ z. z jobs) h)
+          rw (go-too-many (length frames) steps v more k (pos f) (pos x) used (admitted v used f x good hf hx) jobs h)
           (inr (refl, refl, refl))
       | no h ↦
           rw (starts from v k used f x more ft xt frames good hf hx (jobs, refl, stand) h)
@@ -59,7 +59,7 @@ agrees-on {v = v} {k = k} {n = n}
     ])
 
 agrees-may : {w j v k : List ℕ} {n : ℕ} {o : Outcome} {base : ℤ} (a : RunAnswer) (before : List ℕ) → base ≡ pos (length before)
-    → Agrees w n j v k (numbers a) o → (more : ℕ) → MayGoOn base more (ran (before ++ v) k a)
+    → Agrees w n j v k (runNumbers a) o → (more : ℕ) → MayGoOn base more (ran (before ++ v) k a)
 agrees-may a before e agrees more h = rw e (agrees-on agrees (h .0) more before)
 
 module _ (from : From) (w j : List ℕ) (base f x : ℤ) (used fuel more : ℕ) where

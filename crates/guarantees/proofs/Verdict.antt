@@ -1,42 +1,37 @@
 -- How a call is judged: each refusal with its reason, and none of the reasons where a run starts.
 use Prim.Native.Nat.{ℕ, zero, suc, _+_, _≤_, _<_}
 use mathlib.Core.Path.{_≡_, refl, sym, _∙_}
-use mathlib.Core.Bool.{true, false≢true, or-true}
-use mathlib.Core.List.{List}
+use mathlib.Core.Bool.{Bool, true, false, not, false≢true, or-true}
+use mathlib.Core.List.{List, [], _∷_}
 use mathlib.Core.Logic.{_⊎_, inl, inr, ⊎-elim}
 use native.Mathlib.Omega.{arith}
-use native.Mathlib.Decide.{decLt}
 use lib.ListN.{length, take, drop, take-append-drop}
-use lib.Dec.{ltb, eqb}
+use lib.Dec.{ltb}
 use lib.IntN.{ℤ, pos, negsuc}
-use borrow.Author.Tests.{ltb-true, ltb-false, eqb-true, eqb-false, le-leb}
-use Rattle.table.specs.declared.slots.Slot.{Slot}
-use Rattle.table.specs.declared.slots.Place.{Place}
-use Rattle.table.specs.declared.slots.Place.the-variants.{At, Nowhere}
-use Rattle.table.specs.Slots.{room, place}
+use borrow.Author.Tests.{ltb-true, ltb-false, le-leb, not-true, not-false}
+use Rattle.refusals.specs.Refusals.{Row, _when_, answer, unlessRefused}
+use Rattle.refusals.proofs.Choice.{by-row}
+use Rattle.table.specs.Slots.{isUsed, namedSlot}
 use Rattle.table.specs.Sound.{sound}
-use Rattle.table.specs.Frames.{cleared}
-use Rattle.table.proofs.Tests.{by-test}
-use Rattle.table.proofs.SlotLaws.{place-in, place-at}
-use Rattle.table.specs.SoundFrames.{framesSound}
+use Rattle.table.proofs.BaseLaws.{by-base}
+use Rattle.table.proofs.SlotLaws.{used-slot}
+use Rattle.frames.specs.SoundFrames.{framesSound}
 use Rattle.table.proofs.SoundLaws.{each-sound, sound-breaks}
-use Rattle.table.proofs.SoundFrames.{frames-sound}
-use Rattle.engine.specs.declared.step.State.{State}
-use Rattle.engine.specs.declared.step.Status.{Status}
-use Rattle.engine.specs.declared.step.Status.the-variants.{Going, Done as IsDone, NoSlot, NoPlace}
-use Rattle.engine.specs.declared.Admission.{Admission}
-use Rattle.engine.specs.declared.Admission.the-variants.{Refused as NotLet, Start}
+use Rattle.frames.proofs.SoundFrames.{frames-sound}
+use Rattle.stepping.specs.declared.State.{State}
+use Rattle.stepping.specs.declared.Status.{Status}
+use Rattle.stepping.specs.declared.Status.the-variants.{Going, Done as IsDone, OutOfSlots, OutOfPlaces}
 use Rattle.engine.specs.declared.RunAnswer.the-variants.{Refused, Done, Stopped}
-use Rattle.engine.specs.Step.{Stepped, at, step}
-use Rattle.engine.specs.Run.{Ran, ran, resumeAs, resume, drive, admitAt, admit, maxSteps, Begun, begin, goesOn, start}
-use Rattle.engine.specs.Run.{runTail, behind, runFrom}
+use Rattle.stepping.specs.Step.{Stepped, at, step}
+use Rattle.engine.specs.Admission.{outOfRoom, dangling, unsound, slotRows, framesUnsound, maxSteps, stepsOverflow, stopRows, fromRows, runRows}
+use Rattle.engine.specs.Run.{Ran, ran, resumeAs, resume, drive, stepsOf, jobsFrom, stateFrom, runTail, ranWith, runFrom}
+use Rattle.engine.proofs.AdmissionLaws.{out-of-room, in-room, some-dangling, both-placed}
 use Rattle.engine.specs.declared.From.{From}
 use Rattle.engine.specs.declared.From.the-variants.{Scratch, Stop}
-use Rattle.engine.specs.Answer.{numbers}
+use Rattle.engine.specs.Answer.{runNumbers}
 use Rattle.guarantees.specs.Run.{started as let-start, Listed}
 use Rattle.guarantees.specs.Run.{OutOfTable, base-negative, base-past, none-used, above-room}
 use Rattle.guarantees.specs.Run.{Misplaced, negative, not-used, Damaged, JobsDamaged, TooMany}
-use Rattle.guarantees.proofs.Calls.{go-refused}
 
 -- ---- a run that starts is not refused
 
@@ -48,14 +43,14 @@ Ended (ran w j (Stopped n f x steps used waiting)) = (31 ≤ n) × (n ≤ 33)
 
 -- its numbers are those of a run that was let start
 abbrev pub Unrefused : Ran → Type 0
-Unrefused (ran w j a) = let-start (numbers a .number) ≡ true
+Unrefused (ran w j a) = let-start (runNumbers a .number) ≡ true
 
 pub unrefused : (r : Ran) → Ended r → Unrefused r
 unrefused (ran w j (Refused n)) h = absurd h
 unrefused (ran w j (Done slot steps used)) h = refl
 unrefused (ran w j (Stopped n f x steps used waiting)) h = rw (le-leb 31 n (h .0), le-leb n 33 (h .1), or-true)
 
-behind-ended : (before : List ℕ) (r : Ran) → Ended r → Ended (behind before r)
+behind-ended : (before : List ℕ) (r : Ran) → Ended r → Ended (ranWith before r)
 behind-ended before (ran w j (Refused n)) h = h
 behind-ended before (ran w j (Done slot steps used)) h = h
 behind-ended before (ran w j (Stopped n f x steps used waiting)) h = h
@@ -65,8 +60,8 @@ module _ (rest : ℕ → List ℕ → List ℕ → State → Ran)
   status-ended : (w j : List ℕ) (next : State) (t : Status) → Ended (resumeAs rest k s w j next t)
   status-ended w j next Going = goes (suc k) w j next
   status-ended w j next IsDone = tt
-  status-ended w j next NoSlot = (omega arith, omega arith)
-  status-ended w j next NoPlace = (omega arith, omega arith)
+  status-ended w j next OutOfSlots = (omega arith, omega arith)
+  status-ended w j next OutOfPlaces = (omega arith, omega arith)
 
   resume-ended : (t : Stepped) → Ended (resume rest k s t)
   resume-ended (at w j t) = status-ended w j (t .state) (t .status)
@@ -78,20 +73,17 @@ drive-ended (suc n) k w j s = resume-ended (drive n) (drive-ended n) k s (step w
 
 -- ---- which slots are misplaced
 
-nowhere-misplaced : (z : ℤ) (used : ℕ) → place z used ≡ Nowhere → Misplaced used z
-nowhere-misplaced (negsuc i) used e = negative
-nowhere-misplaced (pos i) used e =
-    elim (decLt i used) [
-      | yes h ↦ let p = place-in {z = pos i} refl h in let z : _≡_ {A = ℕ} 0 1 = cc in absurd (omega arith)
-      | no h ↦ not-used {i = i} (omega (arith, h))
-    ]
+unused-misplaced : (z : ℤ) (used : ℕ) → isUsed z used ≡ false → Misplaced used z
+unfolding isUsed
+unused-misplaced (negsuc i) used e = negative
+unused-misplaced (pos i) used e = not-used {i = i} (ltb-false i used e)
 
 pub used-placed : {used n : ℕ} {z : ℤ} → z ≡ pos n → n < used → Misplaced used z → ⊥
 used-placed e h negative = let z : _≡_ {A = ℕ} 0 1 = cc in omega arith
 used-placed {n = n} e h (not-used {i = i} l) = let q : i ≡ n = cc in omega arith
 
-placed-well : (z : ℤ) (used : ℕ) (s : Slot) → place z used ≡ At s → Misplaced used z → ⊥
-placed-well z used s e = let p = place-at z used s e in used-placed (p .0) (p .1)
+placed-well : (z : ℤ) (used : ℕ) → isUsed z used ≡ true → Misplaced used z → ⊥
+placed-well z used e = let p = used-slot z used e in used-placed (p .0) (p .1)
 
 -- ---- the verdict
 
@@ -137,77 +129,76 @@ Judged from w j base f x used fuel =
 
 module _ (w j : List ℕ) (b : ℕ) (f x : ℤ) (used fuel : ℕ) where
   -- a refusal leaves the table whole
-  whole : (n : ℕ) → behind (take b w) (ran (drop b w) j (Refused n)) ≡ ran w j (Refused n)
+  whole : (n : ℕ) → ranWith (take b w) (ran (drop b w) j (Refused n)) ≡ ran w j (Refused n)
   whole n = rw (take-append-drop b w)
 
   -- the verdict on what is left of our part of the table
   abbrev Judge : From → Ran → Type 0
-  Judge from r = Judged from w j (pos b) f x used fuel (behind (take b w) r)
+  Judge from r = Judged from w j (pos b) f x used fuel (ranWith (take b w) r)
+
+  -- a refusal by one of the rows
+  refused : (from : From) (n : ℕ) → Judged from w j (pos b) f x used fuel (ran w j (Refused n)) → Judge from (ran (drop b w) j (Refused n))
+  refused from n v = rw (whole n) v
+
+  -- what comes of the rows, and what passes them
+  abbrev passes : From → Ran
+  passes from = drive fuel (stepsOf from) (drop b w) (jobsFrom from j) (stateFrom from (namedSlot f) (namedSlot x) used)
+
+  abbrev Comes : From → List Row → Type 0
+  Comes from rows = Judge from (unlessRefused (answer rows) (λ n. ran (drop b w) j (Refused n)) (passes from))
+
+  asks : (from : From) (n : ℕ) (t : Bool) (rows : List Row) → (n ≡ 0 → ⊥)
+      → (t ≡ true → Judged from w j (pos b) f x used fuel (ran w j (Refused n))) → (t ≡ false → Comes from rows)
+      → Comes from ((n when t) ∷ rows)
+  asks from n t rows z h k =
+      by-row (λ m. ran (drop b w) j (Refused m)) (passes from) (Judge from) n t rows z (λ e. refused from n (h e)) k
+
+  passes-ended : (from : From) → Ended (ranWith (take b w) (passes from))
+  passes-ended from = behind-ended (take b w) (passes from) (drive-ended fuel (stepsOf from) (drop b w) (jobsFrom from j) _)
 
   module _ (not-out : OutOfTable w (pos b) used → ⊥) (well : Misplaced used f ⊎ Misplaced used x → ⊥)
       (sound-slots : Damaged w (pos b) used → ⊥) where
-    -- on a call from a stop, by what it begins with
-    abbrev Comes-on : ℕ → ℕ → Begun → Type 0
-    Comes-on waiting steps r = Judge (Stop waiting steps) (goesOn (Stop waiting steps) (drop b w) fuel r)
-
     -- the verdict on a call whose slots are sound
-    begins : (from : From) (s t : Slot)
-        → Judge from (start from (drop b w) fuel j (Start (record { f = s; x = t; used = used; waiting = 0 })))
-    unfolding start begin
-    begins Scratch s t =
-        let first : State = record { f = s; x = t; used = used; waiting = 0 } in
-        started not-out well (⊎-elim sound-slots (λ z. z)) (λ z. z)
-        (behind-ended (take b w) (drive fuel 0 (drop b w) (cleared j) first) (drive-ended fuel 0 (drop b w) (cleared j) first))
-    begins (Stop waiting steps) s t =
+    begins : (from : From) → Comes from (fromRows from j used fuel)
+    unfolding answer stopRows framesUnsound stepsOverflow
+    begins Scratch = started not-out well (⊎-elim sound-slots (λ z. z)) (λ z. z) (passes-ended Scratch)
+    begins (Stop waiting steps) =
         let exactly = frames-sound used j waiting in
-        let first : State = record { f = s; x = t; used = used; waiting = waiting } in
-        by-test (Comes-on waiting steps) (framesSound used j waiting)
-        (λ h. by-test (Comes-on waiting steps) (ltb maxSteps (steps + fuel))
-        (λ l. rw (whole 40)
-        (at-last not-out well (⊎-elim sound-slots (λ z. z (exactly .0 h))) (ltb-true maxSteps (steps + fuel) l)))
-        (λ l. started not-out well (⊎-elim sound-slots (λ z. z (exactly .0 h)))
-        (λ g. omega (arith, ltb-false maxSteps (steps + fuel) l))
-        (behind-ended (take b w) (drive fuel steps (drop b w) j first) (drive-ended fuel steps (drop b w) j first))))
-        (λ h. rw (whole 24) (damaged not-out well (inr (λ g. false≢true (sym h ∙ exactly .1 g)))))
+        asks (Stop waiting steps) 24 (not (framesSound used j waiting)) ((40 when ltb maxSteps (steps + fuel)) ∷ []) (omega arith)
+        (λ h. damaged not-out well (inr (λ g. false≢true (sym (not-true _ h) ∙ exactly .1 g))))
+        (λ h.
+        let whole-jobs = ⊎-elim sound-slots (λ z. z (exactly .0 (not-false _ h))) in
+        asks (Stop waiting steps) 40 (ltb maxSteps (steps + fuel)) [] (omega arith)
+        (λ l. at-last not-out well whole-jobs (ltb-true maxSteps (steps + fuel) l))
+        (λ l. started not-out well whole-jobs (λ g. omega (arith, ltb-false maxSteps (steps + fuel) l))
+        (passes-ended (Stop waiting steps))))
 
-  module _ (from : From) where
-    -- the verdict on a call whose base is in the table, by whether it is let start
-    abbrev Comes : Admission → Type 0
-    Comes a = Judge from (start from (drop b w) fuel j a)
+  -- the verdict on a call whose base is in the table
+  module _ (from : From) (inside : b ≤ length w) where
+    not-out : outOfRoom (drop b w) used ≡ false → OutOfTable w (pos b) used → ⊥
+    not-out e (base-past h) = omega arith
+    not-out e (none-used h) = in-room (drop b w) used .0 e .0 h
+    not-out e (above-room h) = omega (arith, in-room (drop b w) used .0 e .1)
 
-    refused : (n : ℕ) → Judged from w j (pos b) f x used fuel (ran w j (Refused n)) → Comes (NotLet n)
-    refused n v = rw (go-refused from (drop b w) fuel j n, whole n) v
-
-    module _ (inside : b ≤ length w) (some : used ≡ 0 → ⊥) (fits : used ≤ room (drop b w)) where
-      not-out : OutOfTable w (pos b) used → ⊥
-      not-out (base-past h) = omega arith
-      not-out (none-used h) = some h
-      not-out (above-room h) = omega arith
-
-      admitted-at : (p q : Place) → place f used ≡ p → place x used ≡ q → Comes (admitAt (drop b w) used p q)
-      unfolding admitAt
-      admitted-at Nowhere q e g = refused 23 (misplaced not-out (inl (nowhere-misplaced f used e)))
-      admitted-at (At s) Nowhere e g = refused 23 (misplaced not-out (inr (nowhere-misplaced x used g)))
-      admitted-at (At s) (At t) e g =
-          let well : Misplaced used f ⊎ Misplaced used x → ⊥ = ⊎-elim (placed-well f used s e) (placed-well x used t g) in
-          by-test Comes (sound (drop b w) used)
-          (λ h. begins not-out well (λ d. d .2 (each-sound (drop b w) used .0 h (d .0) (d .1))) from s t)
-          (λ h. refused 24 (damaged not-out well (inl (sound-breaks (drop b w) used h))))
-
-    admitted : b ≤ length w → Comes (admit (drop b w) f x used)
-    unfolding admit
-    admitted inside =
-        by-test Comes (eqb used 0) (λ e. refused 21 (out (none-used (eqb-true used 0 e))))
-        (λ e. by-test Comes (ltb (room (drop b w)) used)
-        (λ h. refused 21 (out (above-room (ltb-true (room (drop b w)) used h))))
-        (λ h. admitted-at inside (eqb-false used 0 e) (ltb-false (room (drop b w)) used h)
-        (place f used) (place x used) refl refl))
+    admitted : Judge from (runTail from (drop b w) f x used fuel j)
+    unfolding runTail runRows slotRows unsound
+    admitted =
+        asks from 21 (outOfRoom (drop b w) used) _ (omega arith)
+        (λ e. out (⊎-elim none-used above-room (out-of-room (drop b w) used e)))
+        (λ e. asks from 23 (dangling f x used) _ (omega arith)
+        (λ g. misplaced (not-out e)
+        (⊎-elim (λ h. inl (unused-misplaced f used h)) (λ h. inr (unused-misplaced x used h)) (some-dangling f x used g)))
+        (λ g.
+        let (hf, hx) = both-placed f x used .0 g in
+        let well : Misplaced used f ⊎ Misplaced used x → ⊥ = ⊎-elim (placed-well f used hf) (placed-well x used hx) in
+        asks from 24 (not (sound (drop b w) used)) _ (omega arith)
+        (λ h. damaged (not-out e) well (inl (sound-breaks (drop b w) used (not-true _ h))))
+        (λ h. begins (not-out e) well (λ d. d .2 (each-sound (drop b w) used .0 (not-false _ h) (d .0) (d .1))) from)))
 
 -- every call has its verdict
 pub verdict : (from : From) (w j : List ℕ) (base f x : ℤ) (used fuel : ℕ)
     → Judged from w j base f x used fuel (runFrom from w base f x used fuel j)
-unfolding runFrom runTail
-verdict from w j (negsuc b) f x used fuel = out base-negative
-verdict from w j (pos b) f x used fuel =
-    by-test (Judged from w j (pos b) f x used fuel) (ltb (length w) b) (λ h. out (base-past (ltb-true (length w) b h)))
-    (λ h. admitted w j b f x used fuel from (ltb-false (length w) b h))
+unfolding runFrom
+verdict from w j base f x used fuel =
+    by-base w _ _ (λ z. Judged from w j z f x used fuel) (λ b. out base-negative) (λ b h. out (base-past h))
+    (λ b h. admitted w j b f x used fuel from h) base

@@ -5,12 +5,13 @@ use mathlib.Core.List.{List}
 use lib.ListN.{length}
 use lib.IntN.{pos}
 use Rattle.calculus.specs.Tree.{Tree, leaf}
-use Rattle.calculus.specs.Rules.{Frame}
+use Rattle.calculus.specs.Rules.{TreeFrame}
 use Rattle.calculus.specs.Machine.{Stop, stopNumber, ended, stopped, Outcome}
-use Rattle.table.specs.Frames.{frameRoom}
+use Rattle.frames.specs.Frames.{frameRoom}
 use Rattle.table.specs.Sound.{SoundSlots}
-use Rattle.table.specs.Holds.{Holds, HoldsFrom, Untouched, StandFrom, ZeroFrom}
-use Rattle.engine.specs.Answer.{Numbers}
+use Rattle.table.specs.Holds.{Holds, HoldsFrom, Untouched}
+use Rattle.frames.specs.Stand.{StandFrom, ZeroFrom}
+use Rattle.engine.specs.Answer.{RunNumbers}
 
 -- What a run leaves in the two tables. w is our part of the word table before it, of which n slots are used, and j the
 -- frame table that is lent; v and k are those after it, with m used slots and `waiting` frames.
@@ -29,23 +30,23 @@ pub record Leaves (w : List ℕ) (n : ℕ) (j v : List ℕ) (m : ℕ) (k : List 
 
 -- "Done answers 0, the result's slot, steps, used count. A stop answers its number, the f and x still to be applied, steps,
 -- used count, jobs waiting. Numbers not named are 0."
-abbrev pub doneWith : ℕ → ℕ → ℕ → Numbers
+abbrev pub doneWith : ℕ → ℕ → ℕ → RunNumbers
 doneWith slot steps used =
     record { number = 0; slot = pos slot; f = pos 0; x = pos 0; steps = steps; used = used; waiting = 0 }
 
-abbrev pub stoppedWith : ℕ → ℕ → ℕ → ℕ → ℕ → ℕ → Numbers
+abbrev pub stoppedWith : ℕ → ℕ → ℕ → ℕ → ℕ → ℕ → RunNumbers
 stoppedWith number f x steps used waiting =
     record { number = number; slot = pos 0; f = pos f; x = pos x; steps = steps; used = used; waiting = waiting }
 
 -- What a run leaves and answers, and the machine's outcome: the same ending, number and steps; a used count that grows by the
 -- nodes made; slots that hold the machine's trees, and jobs that stand for its frames, oldest first.
-pub data Agrees (w : List ℕ) (n : ℕ) (j v k : List ℕ) : Numbers → Outcome → Type 0 where
+pub data Agrees (w : List ℕ) (n : ℕ) (j v k : List ℕ) : RunNumbers → Outcome → Type 0 where
   agrees-done : {slot steps : ℕ} {t : Tree} {made : List Tree}
       → Holds v (n + length made) slot t
       → Leaves w n j v (n + length made) k made 0
       → Agrees w n j v k (doneWith slot steps (n + length made))
       (record { ending = ended t; steps = steps; made = made })
-  agrees-stop : {f x steps : ℕ} {why : Stop} {ft xt : Tree} {frames : List Frame} {made : List Tree}
+  agrees-stop : {f x steps : ℕ} {why : Stop} {ft xt : Tree} {frames : List TreeFrame} {made : List Tree}
       → Holds v (n + length made) f ft
       → Holds v (n + length made) x xt
       → StandFrom v (n + length made) k 0 frames

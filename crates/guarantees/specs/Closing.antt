@@ -5,8 +5,8 @@ use mathlib.Core.List.{List}
 use lib.ListN.{drop}
 use lib.IntN.{ℤ}
 use Rattle.calculus.specs.Laws as machine
-use Rattle.calculus.specs.Cases.{CasesHold, FurtherHold}
-use Rattle.table.specs.SoundFrames.{OneFrameList}
+use Rattle.calculus.specs.Cases.{MachineCasesHold, FurtherHold}
+use Rattle.frames.specs.SoundFrames.{OneFrameList}
 use Rattle.engine.specs.Run.{runFrom}
 use Rattle.soundness.specs.Sound.{Sound}
 use Rattle.soundness.specs.Meaning as checks
@@ -14,7 +14,7 @@ use Rattle.soundness.specs.ExportCalls.{OnlyName, IndexTells, OnlyIndex}
 use Rattle.soundness.specs.Skipped.{SkippedUnread}
 use Rattle.soundness.specs.NodesMeaning.{HashedBytes, LongestReached}
 use Rattle.plain.specs.Run.{plainRun}
-use Rattle.loader.specs.Answer.{Numbers}
+use Rattle.loader.specs.Answer.{LoadNumbers}
 use Rattle.guarantees.specs.Run.{Calls, NumberTells, OneAnswer}
 use Rattle.guarantees.specs.Plain.{OnlyPlain, PlainNumberTells, PlainOneAnswer}
 use Rattle.guarantees.specs.Onward.{NoFuelKeeps}
@@ -27,7 +27,7 @@ use Rattle.guarantees.specs.Demands.{AllRuns}
 abbrev pub OnlyRuns : Type 0
 OnlyRuns =
     (calls : Calls) → AllRuns calls →
-    (file words words′ : List ℕ) (base : ℤ) (exports exports′ : List ℕ) (n : Numbers) →
+    (file words words′ : List ℕ) (base : ℤ) (exports exports′ : List ℕ) (n : LoadNumbers) →
     (l : Loads file words base exports words′ exports′ n) (requests : List Request) → Bring (l .at) requests →
     let t : Table = record { words = drop (l .at) words′; used = n .nodes } in
     SameAll calls runFrom (l .at) (n .nodes) t t requests
@@ -70,7 +70,7 @@ pub record Agreeing : Type 0 where
   pub longest-nodes : checks.LongestNodes
   pub longest-reached : LongestReached
   -- the marked cases of document 01, and further ones, hold of the machine
-  pub marked-cases : CasesHold
+  pub marked-cases : MachineCasesHold
   pub further-cases : FurtherHold
   -- it is done just where the seven rules say so, its steps are the fuel spent, and it stops just where document 01 says
   pub done-exactly : machine.DoneExactly

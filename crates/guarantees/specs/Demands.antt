@@ -10,7 +10,7 @@ use lib.IntN.{ℤ, pos}
 use Rattle.calculus.specs.Tree.{leaf}
 use Rattle.calculus.specs.Laws.{StopNumbers}
 use Rattle.table.specs.Slots.{room, RoomIs}
-use Rattle.table.specs.Frames.{JobRoomIs, JobWords}
+use Rattle.frames.specs.Frames.{JobRoomIs, JobWords}
 use Rattle.table.specs.Holds.{Holds}
 use Rattle.engine.specs.declared.RunAnswer.{RunAnswer}
 use Rattle.engine.specs.Run.{ran, runFrom}
@@ -29,13 +29,13 @@ use Rattle.soundness.specs.ExportCalls.{index, IndexByName, NoSuchName, EmptyNa
 use Rattle.soundness.specs.FileMeaning.{BigEndian}
 use Rattle.soundness.specs.NodesMeaning.{ReadsChildren}
 use Rattle.loader.specs.declared.LoadAnswer.{LoadAnswer}
-use Rattle.loader.specs.Answer.{Numbers, numbers}
+use Rattle.loader.specs.Answer.{LoadNumbers, loadNumbers}
 use Rattle.loader.specs.Load.{loaded, load}
 use Rattle.guarantees.specs.Run.{Calls, RunSimulates, started, RefusalKeeps, RefusedExactly, JobsSound, BaseBlind, DoneStays}
 use Rattle.guarantees.specs.Plain.{PlainRefusedExactly, PlainRefusalKeeps, PlainBlind, PlainDoneExactly}
 use Rattle.guarantees.specs.Onward.{FuelInParts, StopsCarryOn}
 use Rattle.guarantees.specs.Session.{Request, Bring, AllAlike}
-use Rattle.guarantees.specs.Load.{AcceptedExactly, LoadNumberExactly, LoadRefusalKeeps, Loads, LoadLeaves, LoadBlind}
+use Rattle.guarantees.specs.Load.{LoadAcceptedExactly, LoadNumberExactly, LoadRefusalKeeps, Loads, LoadLeaves, LoadBlind}
 
 -- slot zero of the table from the base on, a slot in its room, holds the leaf
 abbrev pub ZeroIsLeaf : ℤ → List ℕ → Type 0
@@ -66,12 +66,12 @@ pub record Demand1 : Type 0 where
   pub plain-blind : PlainBlind
   -- slot zero is the leaf after every accepted load and every run or plain run that was let start
   pub load-zero : (file words words′ : List ℕ) (base : ℤ) (exports exports′ : List ℕ) (a : LoadAnswer) →
-      load file words base exports ≡ loaded words′ exports′ a → numbers a .number ≡ 0 → ZeroIsLeaf base words′
+      load file words base exports ≡ loaded words′ exports′ a → loadNumbers a .number ≡ 0 → ZeroIsLeaf base words′
   pub run-zero : (from : From) (words words′ jobs jobs′ : List ℕ) (base f x : ℤ) (used fuel : ℕ) (a : RunAnswer) →
-      runFrom from words base f x used fuel jobs ≡ ran words′ jobs′ a → started (engine.numbers a .number) ≡ true →
+      runFrom from words base f x used fuel jobs ≡ ran words′ jobs′ a → started (engine.runNumbers a .number) ≡ true →
       ZeroIsLeaf base words′
   pub plain-zero : (words words′ : List ℕ) (base f x : ℤ) (used fuel places : ℕ) (a : PlainAnswer) →
-      plainRun words base f x used fuel places ≡ played words′ a → started (plain.numbers a .number) ≡ true →
+      plainRun words base f x used fuel places ≡ played words′ a → started (plain.plainNumbers a .number) ≡ true →
       ZeroIsLeaf base words′
   -- the room of the two tables, and where a job stands
   pub room-is : RoomIs
@@ -82,7 +82,7 @@ pub record Demand1 : Type 0 where
 -- the node hashes. Otherwise the answer is the lowest number that applies.
 pub record Demand2 : Type 0 where
   -- of the load, and what it leaves; of the check alone, 1 to 20
-  pub load-accepted : AcceptedExactly
+  pub load-accepted : LoadAcceptedExactly
   pub load-by-number : LoadNumberExactly load
   pub load-leaves : LoadLeaves load
   pub check-accepted : checks.AcceptedExactly
@@ -96,7 +96,7 @@ pub record Demand2 : Type 0 where
 -- requests, whatever each finds before the base, with the store that starts with the records' trees in the order of placing.
 abbrev pub AllRuns : Calls → Type 0
 AllRuns calls =
-    (file words words′ : List ℕ) (base : ℤ) (exports exports′ : List ℕ) (n : Numbers) →
+    (file words words′ : List ℕ) (base : ℤ) (exports exports′ : List ℕ) (n : LoadNumbers) →
     (l : Loads file words base exports words′ exports′ n) (requests : List Request) → Bring (l .at) requests →
     AllAlike calls (l .at) (room (drop (l .at) words)) (record { words = drop (l .at) words′; used = n .nodes }) (l .store) requests
 

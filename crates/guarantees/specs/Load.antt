@@ -8,7 +8,7 @@ use lib.IntN.{ℤ, pos, negsuc}
 use Rattle.calculus.specs.Tree.{Tree}
 use Rattle.table.specs.Slots.{room}
 use Rattle.table.specs.Holds.{Holds, Untouched}
-use Rattle.nodes.specs.Records.{Node, hashes}
+use Rattle.nodes.specs.Records.{NodeRecord, hashes}
 use Rattle.manifest.specs.Content.{Export}
 use Rattle.soundness.specs.Graph.{Names}
 use Rattle.soundness.specs.Sound.{Sound}
@@ -16,7 +16,7 @@ use Rattle.soundness.specs.ManifestGrammar.{Contents}
 use Rattle.soundness.specs.Applies.{HasManifest, HasNodes, Applies, Smallest}
 use Rattle.soundness.specs.Skipped.{ReadAlike}
 use Rattle.loader.specs.declared.LoadAnswer.{LoadAnswer}
-use Rattle.loader.specs.Answer.{Numbers, numbers}
+use Rattle.loader.specs.Answer.{LoadNumbers, loadNumbers}
 use Rattle.loader.specs.Load.{Loaded, loaded, load}
 use Rattle.guarantees.specs.Order.{Order, TreesOf}
 use Rattle.guarantees.specs.Session.{Holding}
@@ -38,7 +38,7 @@ pub record Loadable (file words : List ℕ) (base : ℤ) (exports : List ℕ) : 
 -- when a number applies to a load: one of 1 to 20 to the file; 21 and 22 to the nodes and the exports that it has
 pub data LoadApplies (file words : List ℕ) (base : ℤ) (exports : List ℕ) : ℕ → Type 0 where
   of-file : {n : ℕ} → Applies file n → LoadApplies file words base exports n
-  unfit : {rs : List Node} → HasNodes file rs → Unfit words (length rs) base → LoadApplies file words base exports 21
+  unfit : {rs : List NodeRecord} → HasNodes file rs → Unfit words (length rs) base → LoadApplies file words base exports 21
   crowded : {m : Contents} → HasManifest file m → length exports < length (m .exports) →
       LoadApplies file words base exports 22
 
@@ -47,40 +47,40 @@ abbrev pub LoadCall : Type 0
 LoadCall = List ℕ → List ℕ → ℤ → List ℕ → Loaded
 
 -- the numbers that it answers
-abbrev pub answerOf : Loaded → Numbers
-answerOf (loaded words exports a) = numbers a
+abbrev pub loadNumbersOf : Loaded → LoadNumbers
+loadNumbersOf (loaded words exports a) = loadNumbers a
 
 -- A load is accepted, which is answered with 0, exactly when the bundle is sound, within the limits, and fits.
-abbrev pub AcceptedExactly : Type 0
-AcceptedExactly =
+abbrev pub LoadAcceptedExactly : Type 0
+LoadAcceptedExactly =
     (file words : List ℕ) (base : ℤ) (exports : List ℕ) →
-    (answerOf (load file words base exports) .number ≡ 0) ↔ Loadable file words base exports
+    (loadNumbersOf (load file words base exports) .number ≡ 0) ↔ Loadable file words base exports
 
 -- A load answers n, and not 0, exactly where n is the smallest number that applies to it.
 abbrev pub LoadNumberExactly : LoadCall → Type 0
 LoadNumberExactly call =
     (file words : List ℕ) (base : ℤ) (exports : List ℕ) (n : ℕ) →
-    ((answerOf (call file words base exports) .number ≡ n) × (n ≡ 0 → ⊥)) ↔ Smallest (LoadApplies file words base exports) n
+    ((loadNumbersOf (call file words base exports) .number ≡ n) × (n ≡ 0 → ⊥)) ↔ Smallest (LoadApplies file words base exports) n
 
 -- A refusal answers a number of the list, 1 to 22, with every other number 0, and changes no word.
 abbrev pub LoadRefusalKeeps : LoadCall → Type 0
 LoadRefusalKeeps call =
     (file words words′ : List ℕ) (base : ℤ) (exports exports′ : List ℕ) (a : LoadAnswer) →
-    call file words base exports ≡ loaded words′ exports′ a → (numbers a .number ≡ 0 → ⊥) →
-    (n : ℕ) × (n ≤ 22) × (numbers a ≡ record { number = n; nodes = 0; exports = 0 })
+    call file words base exports ≡ loaded words′ exports′ a → (loadNumbers a .number ≡ 0 → ⊥) →
+    (n : ℕ) × (n ≤ 22) × (loadNumbers a ≡ record { number = n; nodes = 0; exports = 0 })
     × (words′ ≡ words) × (exports′ ≡ exports)
 
 -- ---- what an accepted load leaves
 
 -- the word k is the slot of the tree that a hash names: that of the record with that hash
-pub record NamedSlot (rs order : List Node) (table : List ℕ) (k : ℕ) (h : List ℕ) : Type 0 where
+pub record NamedSlot (rs order : List NodeRecord) (table : List ℕ) (k : ℕ) (h : List ℕ) : Type 0 where
   pub tree : Tree
   pub names : Names rs h tree
   pub holds : Holds table (length rs) k tree
   pub placed : getD (hashes order) k [] ≡ h
 
 -- words and exports are the tables before the load, words′ and exports′ those after it
-pub record Loads (file words : List ℕ) (base : ℤ) (exports words′ exports′ : List ℕ) (answer : Numbers) : Type 0 where
+pub record Loads (file words : List ℕ) (base : ℤ) (exports words′ exports′ : List ℕ) (answer : LoadNumbers) : Type 0 where
   pub sound : Sound file
   pub at : ℕ
   pub base-is : base ≡ pos at
@@ -90,7 +90,7 @@ pub record Loads (file words : List ℕ) (base : ℤ) (exports words′ exports�
   pub nodes : answer .nodes ≡ length (sound .nodes)
   pub listed : answer .exports ≡ length (sound .described .manifest .exports)
   -- slot i holds the tree that the hash of the i-th placed record names; the used slots are sound, and slot zero is the leaf
-  pub order : List Node
+  pub order : List NodeRecord
   pub in-order : Order (sound .nodes) order
   pub store : List Tree
   pub trees : TreesOf (sound .nodes) order store
@@ -110,18 +110,18 @@ pub record Loads (file words : List ℕ) (base : ℤ) (exports words′ exports�
 abbrev pub LoadLeaves : LoadCall → Type 0
 LoadLeaves call =
     (file words words′ : List ℕ) (base : ℤ) (exports exports′ : List ℕ) (a : LoadAnswer) →
-    call file words base exports ≡ loaded words′ exports′ a → numbers a .number ≡ 0 →
-    Loads file words base exports words′ exports′ (numbers a)
+    call file words base exports ≡ loaded words′ exports′ a → loadNumbers a .number ≡ 0 →
+    Loads file words base exports words′ exports′ (loadNumbers a)
 
 -- A sound bundle has just one order of placing, and just one store, however its soundness is shown.
 abbrev pub OneOrder : Type 0
 OneOrder =
-    (file : List ℕ) (s s′ : Sound file) (order order′ : List Node) →
+    (file : List ℕ) (s s′ : Sound file) (order order′ : List NodeRecord) →
     Order (s .nodes) order → Order (s′ .nodes) order′ → order ≡ order′
 
 abbrev pub OneStart : Type 0
 OneStart =
-    (file : List ℕ) (s s′ : Sound file) (order : List Node) (store store′ : List Tree) →
+    (file : List ℕ) (s s′ : Sound file) (order : List NodeRecord) (store store′ : List Tree) →
     TreesOf (s .nodes) order store → TreesOf (s′ .nodes) order store′ → store ≡ store′
 
 -- Nothing is left open: a call that keeps these three promises leaves and answers what this one does, on every input. So a load

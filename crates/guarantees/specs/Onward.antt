@@ -11,16 +11,16 @@ use Rattle.engine.specs.declared.From.{From}
 use Rattle.engine.specs.declared.RunAnswer.{RunAnswer}
 use Rattle.engine.specs.declared.RunAnswer.the-variants.{Stopped}
 use Rattle.engine.specs.declared.From.the-variants.{Stop}
-use Rattle.engine.specs.Answer.{Numbers, numbers}
+use Rattle.engine.specs.Answer.{RunNumbers, runNumbers}
 use Rattle.guarantees.specs.Run.{Calls, stepsBefore, started, RefusedWith}
 
 -- a carry-on of what a run left: its tables, and the numbers that it answered
 abbrev pub carried : Calls → ℤ → ℕ → Ran → Ran
 carried calls base fuel (ran w j a) =
-    calls (Stop (numbers a .waiting) (numbers a .steps)) w base (numbers a .f) (numbers a .x) (numbers a .used) fuel j
+    calls (Stop (runNumbers a .waiting) (runNumbers a .steps)) w base (runNumbers a .f) (runNumbers a .x) (runNumbers a .used) fuel j
 
-abbrev pub numbersOf : Ran → Numbers
-numbersOf (ran w j a) = numbers a
+abbrev pub numbersOf : Ran → RunNumbers
+numbersOf (ran w j a) = runNumbers a
 
 -- one part more: what was stopped with 31 is carried on, anything else stays as it is
 abbrev pub nextPart : Calls → ℤ → ℕ → Ran → Ran
@@ -47,7 +47,7 @@ FuelInParts =
 abbrev pub MayGoOn : ℤ → ℕ → Ran → Type 0
 MayGoOn base more (ran w j a) =
     let r = carried runFrom base more (ran w j a) in
-    (31 ≤ numbers a .number) × (numbers a .number ≤ 33) → (started (numbersOf r .number) ≡ true) ⊎ RefusedWith 40 w j r
+    (31 ≤ runNumbers a .number) × (runNumbers a .number ≤ 33) → (started (numbersOf r .number) ≡ true) ⊎ RefusedWith 40 w j r
 
 abbrev pub StopsCarryOn : Type 0
 StopsCarryOn =
@@ -57,5 +57,5 @@ StopsCarryOn =
 abbrev pub NoFuelKeeps : Type 0
 NoFuelKeeps =
     (waiting steps : ℕ) (w v j k : List ℕ) (base f x : ℤ) (used : ℕ) (a : RunAnswer)
-    → runFrom (Stop waiting steps) w base f x used 0 j ≡ ran v k a → started (numbers a .number) ≡ true
+    → runFrom (Stop waiting steps) w base f x used 0 j ≡ ran v k a → started (runNumbers a .number) ≡ true
     → (a ≡ Stopped 31 f x steps used waiting) × (v ≡ w) × (k ≡ j)

@@ -14,7 +14,7 @@ use Rattle.table.specs.Sound.{SoundSlots}
 use Rattle.table.specs.Holds.{Holds}
 use Rattle.plain.specs.declared.PlainAnswer.{PlainAnswer}
 use Rattle.plain.specs.declared.PlainAnswer.the-variants.{Refused, Done, Stopped}
-use Rattle.plain.specs.Answer.{numbers}
+use Rattle.plain.specs.Answer.{plainNumbers}
 use Rattle.plain.specs.Run.{played, plainRun}
 use Rattle.plain.specs.Meaning.{PlainCall, Shown, shown, PlainIsRun}
 use Rattle.guarantees.specs.Run.{started, Listed, OutOfTable, Misplaced, Damaged, InOrder}
@@ -43,7 +43,7 @@ PlainRefusedExactly call =
 abbrev pub PlainRefusalKeeps : Type 0
 PlainRefusalKeeps =
     (w v : List ℕ) (base f x : ℤ) (used fuel places : ℕ) (a : PlainAnswer)
-    → plainRun w base f x used fuel places ≡ played v a → started (numbers a .number) ≡ false
+    → plainRun w base f x used fuel places ≡ played v a → started (plainNumbers a .number) ≡ false
     → (n : ℕ) × (shown (played v a) ≡ refused n w) × Listed 49 n
 
 -- ---- what holds of every plain run
@@ -82,7 +82,7 @@ PlainNumberTells call =
     → call w base f x used fuel places ≡ played v a → PlainTells a
 
 abbrev pub PlainOneAnswer : Type 0
-PlainOneAnswer = (a a′ : PlainAnswer) → PlainTells a → PlainTells a′ → numbers a ≡ numbers a′ → a ≡ a′
+PlainOneAnswer = (a a′ : PlainAnswer) → PlainTells a → PlainTells a′ → plainNumbers a ≡ plainNumbers a′ → a ≡ a′
 
 -- A call that is the run call's twin, is refused so, and whose number tells the case, answers and leaves what this one does.
 abbrev pub OnlyPlain : Type 0

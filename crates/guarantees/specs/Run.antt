@@ -9,20 +9,21 @@ use lib.ListN.{length, getD, drop}
 use lib.Dec.{eqb, leb}
 use lib.IntN.{ℤ, pos, negsuc}
 use Rattle.calculus.specs.Tree.{Tree}
-use Rattle.calculus.specs.Rules.{Frame}
+use Rattle.calculus.specs.Rules.{TreeFrame}
 use Rattle.calculus.specs.Machine.{Outcome}
 use Rattle.calculus.specs.Machine as machine
 use Rattle.table.specs.Slots.{room, SameSlots}
-use Rattle.table.specs.Frames.{frameRoom}
+use Rattle.frames.specs.Frames.{frameRoom}
 use Rattle.table.specs.Sound.{SoundSlot, SoundSlots}
-use Rattle.table.specs.Holds.{Holds, StandFrom, ZeroFrom}
-use Rattle.table.specs.SoundFrames.{SoundJobs}
+use Rattle.table.specs.Holds.{Holds}
+use Rattle.frames.specs.Stand.{StandFrom, ZeroFrom}
+use Rattle.frames.specs.SoundFrames.{SoundJobs}
 use Rattle.engine.specs.declared.RunAnswer.{RunAnswer}
 use Rattle.engine.specs.declared.RunAnswer.the-variants.{Refused, Done, Stopped}
 use Rattle.engine.specs.Run.{Ran, ran, runFrom}
 use Rattle.engine.specs.declared.From.{From}
 use Rattle.engine.specs.declared.From.the-variants.{Scratch, Stop}
-use Rattle.engine.specs.Answer.{Numbers, numbers}
+use Rattle.engine.specs.Answer.{RunNumbers, runNumbers}
 use Rattle.guarantees.specs.Agrees.{Agrees}
 
 -- what any call leaves and answers, by the word table, the base, f, x, the used count, the fuel and the frame table
@@ -46,7 +47,7 @@ TooMany Scratch fuel = ⊥
 TooMany (Stop waiting steps) fuel = 4294967295 < steps + fuel
 
 -- these frames wait, oldest first: none, or those that sound jobs stand for
-abbrev pub Waiting : From → List ℕ → ℕ → List ℕ → List Frame → Type 0
+abbrev pub Waiting : From → List ℕ → ℕ → List ℕ → List TreeFrame → Type 0
 Waiting Scratch w used j frames = frames ≡ []
 Waiting (Stop waiting steps) w used j frames =
     SoundJobs used j waiting × (length frames ≡ waiting) × StandFrom w used j 0 frames
@@ -59,11 +60,11 @@ later steps o = record { ending = o .ending; steps = steps + o .steps; made = o 
 -- call's fuel, the room less the used slots, and the frame table's room. The steps are in total. The words before the base stay.
 abbrev pub SimulatesFrom : From → RunCall → Type 0
 SimulatesFrom from call =
-    (before w j : List ℕ) (used f x fuel : ℕ) (ft xt : Tree) (frames : List Frame)
+    (before w j : List ℕ) (used f x fuel : ℕ) (ft xt : Tree) (frames : List TreeFrame)
     → SoundSlots w used → Holds w used f ft → Holds w used x xt → Waiting from w used j frames → (TooMany from fuel → ⊥)
     → (v : List ℕ) × (k : List ℕ) × (a : RunAnswer)
     × (call (before ++ w) (pos (length before)) (pos f) (pos x) used fuel j ≡ ran (before ++ v) k a)
-    × Agrees w used j v k (numbers a)
+    × Agrees w used j v k (runNumbers a)
     (later (stepsBefore from)
     (machine.run fuel (room w - used) (frameRoom j) (record { f = ft; x = xt; frames = reverse frames })))
 
@@ -73,8 +74,8 @@ RunSimulates calls = (from : From) → SimulatesFrom from (calls from)
 -- ---- the refusals
 
 -- a refusal's numbers: its own, and every other 0
-abbrev pub refusal : ℕ → Numbers
-refusal n = record { number = n; slot = pos 0; f = pos 0; x = pos 0; steps = 0; used = 0; waiting = 0 }
+abbrev pub refusalNumbers : ℕ → RunNumbers
+refusalNumbers n = record { number = n; slot = pos 0; f = pos 0; x = pos 0; steps = 0; used = 0; waiting = 0 }
 
 -- the number of a run that was let start: 0, or a stop's, 31, 32 or 33
 abbrev pub started : ℕ → Bool
@@ -82,7 +83,7 @@ started n = eqb n 0 || (leb 31 n && leb n 33)
 
 -- a call on these two tables is refused with this number: it answers that, and changes no word
 abbrev pub RefusedWith : ℕ → List ℕ → List ℕ → Ran → Type 0
-RefusedWith n w j (ran v k a) = (numbers a ≡ refusal n) × (v ≡ w) × (k ≡ j)
+RefusedWith n w j (ran v k a) = (runNumbers a ≡ refusalNumbers n) × (v ≡ w) × (k ≡ j)
 
 -- the numbers of the list that a run of some kind may be refused with, the last one its own
 abbrev pub Listed : ℕ → ℕ → Type 0
@@ -93,7 +94,7 @@ Listed last n = (n ≡ 21) ⊎ ((n ≡ 23) ⊎ ((n ≡ 24) ⊎ (n ≡ last)))
 abbrev pub RefusalKeeps : Type 0
 RefusalKeeps =
     (from : From) (w v j k : List ℕ) (base f x : ℤ) (used fuel : ℕ) (a : RunAnswer)
-    → runFrom from w base f x used fuel j ≡ ran v k a → started (numbers a .number) ≡ false
+    → runFrom from w base f x used fuel j ≡ ran v k a → started (runNumbers a .number) ≡ false
     → (n : ℕ) × RefusedWith n w j (ran v k a) × Listed 40 n
 
 -- The number tells which case of the answer it is: a refusal has 21, 23, 24 or 40, a stop 31, 32 or 33.
@@ -109,7 +110,7 @@ NumberTells =
 
 -- and with it the numbers tell the whole answer
 abbrev pub OneAnswer : Type 0
-OneAnswer = (a a′ : RunAnswer) → Tells a → Tells a′ → numbers a ≡ numbers a′ → a ≡ a′
+OneAnswer = (a a′ : RunAnswer) → Tells a → Tells a′ → runNumbers a ≡ runNumbers a′ → a ≡ a′
 
 -- 21: base negative or past the end of the table, or used count 0 or above room
 pub data OutOfTable (w : List ℕ) : ℤ → ℕ → Type 0 where
@@ -160,8 +161,8 @@ RefusedExactly calls = (from : From) → RefusedFrom from (calls from)
 abbrev pub JobsSound : Type 0
 JobsSound =
     (from : From) (w v j k : List ℕ) (base f x : ℤ) (used fuel : ℕ) (a : RunAnswer)
-    → runFrom from w base f x used fuel j ≡ ran v k a → started (numbers a .number) ≡ true
-    → SoundJobs (numbers a .used) k (numbers a .waiting)
+    → runFrom from w base f x used fuel j ≡ ran v k a → started (runNumbers a .number) ≡ true
+    → SoundJobs (runNumbers a .used) k (runNumbers a .waiting)
 
 -- No word before the base is looked at or changed: wherever our part stands, and whatever is before it, the answer, our part and
 -- the frame table come out the same. With a base that is negative or past the end every run is refused with 21.
@@ -182,9 +183,9 @@ SameJobs (Stop waiting steps) j j′ = ((i : ℕ) → i < 3 * waiting → getD j
 abbrev pub DoneStays : Type 0
 DoneStays =
     (from : From) (before before′ w w′ v j j′ k : List ℕ) (f x : ℤ) (used fuel fuel′ : ℕ) (a : RunAnswer)
-    → runFrom from (before ++ w) (pos (length before)) f x used fuel j ≡ ran (before ++ v) k a → numbers a .number ≡ 0
+    → runFrom from (before ++ w) (pos (length before)) f x used fuel j ≡ ran (before ++ v) k a → runNumbers a .number ≡ 0
     → SameSlots used w w′ → SameJobs from j j′ → (TooMany from fuel′ → ⊥)
     → fuel ≤ fuel′ → room w ≤ room w′ → frameRoom j ≤ frameRoom j′
     → (v′ : List ℕ) × (k′ : List ℕ)
     × (runFrom from (before′ ++ w′) (pos (length before′)) f x used fuel′ j′ ≡ ran (before′ ++ v′) k′ a)
-    × SameSlots (numbers a .used) v v′
+    × SameSlots (runNumbers a .used) v v′

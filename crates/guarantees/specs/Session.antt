@@ -7,20 +7,20 @@ use lib.ListN.{length, getD, drop}
 use lib.Dec.{eqb, leb, ltb}
 use lib.IntN.{ℤ, pos, negsuc}
 use Rattle.calculus.specs.Tree.{Tree, leaf}
-use Rattle.calculus.specs.Rules.{Frame, operand, argument, function}
+use Rattle.calculus.specs.Rules.{TreeFrame, operand, argument, function}
 use Rattle.calculus.specs.Machine.{Outcome}
 use Rattle.calculus.specs.Machine as machine
 use Rattle.table.specs.Slots.{room}
-use Rattle.table.specs.Frames.{frameRoom}
+use Rattle.frames.specs.Frames.{frameRoom}
 use Rattle.table.specs.Sound.{SoundSlots}
 use Rattle.table.specs.Holds.{Holds, HoldsFrom}
 use Rattle.engine.specs.declared.RunAnswer.{RunAnswer}
 use Rattle.engine.specs.Run.{Ran, ran, runFrom}
 use Rattle.engine.specs.declared.From.{From}
 use Rattle.engine.specs.declared.From.the-variants.{Scratch, Stop}
-use Rattle.engine.specs.Answer.{numbers}
+use Rattle.engine.specs.Answer.{runNumbers}
 use Rattle.guarantees.specs.Agrees.{Agrees}
-use Rattle.guarantees.specs.Run.{Calls, stepsBefore, later, RunSimulates, RefusedExactly, refusal, started}
+use Rattle.guarantees.specs.Run.{Calls, stepsBefore, later, RunSimulates, RefusedExactly, refusalNumbers, started}
 
 -- a request to run, from scratch or from a stop: the words that are before the base by then, the slots f and x, the fuel and the
 -- frame table that is lent
@@ -50,40 +50,40 @@ Bring b (c ∷ cs) = (length (beforeOf c) ≡ b) × Bring b cs
 -- ---- the machine and its store of trees, the paper's book
 
 -- what is found there, if anything is
-pub data Found (A : Type 0) : Type 0 where
-  found : A → Found A
-  nowhere : Found A
+pub data Lookup (A : Type 0) : Type 0 where
+  found : A → Lookup A
+  nowhere : Lookup A
 
 -- what is made of it, where it is found
-abbrev pub andThen : {A B : Type 0} → Found A → (A → Found B) → Found B
-andThen (found a) make = make a
-andThen nowhere make = nowhere
+abbrev pub lookupThen : {A B : Type 0} → Lookup A → (A → Lookup B) → Lookup B
+lookupThen (found a) make = make a
+lookupThen nowhere make = nowhere
 
 -- the tree at a place of the store
-abbrev pub lookUp : List Tree → ℤ → Found Tree
+abbrev pub lookUp : List Tree → ℤ → Lookup Tree
 lookUp store (pos i) = cond (ltb i (length store)) (found (getD store i leaf)) nowhere
 lookUp store (negsuc i) = nowhere
 
 -- the frame that a job's three words stand for: "then b to x" is (1, b, x), "then the result to v" (2, v, 0), "then w to the result"
 -- (3, w, 0), where every slot is a place of the store
-abbrev pub jobIn : List Tree → ℕ → ℕ → ℕ → Found Frame
+abbrev pub jobIn : List Tree → ℕ → ℕ → ℕ → Lookup TreeFrame
 jobIn store tag a b =
-    cond (eqb tag 1) (andThen (lookUp store (pos a)) (λ t. andThen (lookUp store (pos b)) (λ u. found (operand t u))))
-    (cond (eqb tag 2 && eqb b 0) (andThen (lookUp store (pos a)) (λ t. found (argument t)))
-    (cond (eqb tag 3 && eqb b 0) (andThen (lookUp store (pos a)) (λ t. found (function t))) nowhere))
+    cond (eqb tag 1) (lookupThen (lookUp store (pos a)) (λ t. lookupThen (lookUp store (pos b)) (λ u. found (operand t u))))
+    (cond (eqb tag 2 && eqb b 0) (lookupThen (lookUp store (pos a)) (λ t. found (argument t)))
+    (cond (eqb tag 3 && eqb b 0) (lookupThen (lookUp store (pos a)) (λ t. found (function t))) nowhere))
 
 -- so many jobs, oldest first, with nothing but zeros above them
-abbrev pub jobsIn : List Tree → ℕ → List ℕ → Found (List Frame)
+abbrev pub jobsIn : List Tree → ℕ → List ℕ → Lookup (List TreeFrame)
 jobsIn store zero [] = found []
 jobsIn store zero (word ∷ j) = cond (eqb word 0) (jobsIn store zero j) nowhere
 jobsIn store (suc n) [] = nowhere
 jobsIn store (suc n) (tag ∷ []) = nowhere
 jobsIn store (suc n) (tag ∷ a ∷ []) = nowhere
 jobsIn store (suc n) (tag ∷ a ∷ b ∷ j) =
-    andThen (jobIn store tag a b) (λ f. andThen (jobsIn store n j) (λ fs. found (f ∷ fs)))
+    lookupThen (jobIn store tag a b) (λ f. lookupThen (jobsIn store n j) (λ fs. found (f ∷ fs)))
 
 -- the frames that a run begins with: none, or those of its jobs, which are no more than the job room
-abbrev pub framesIn : List Tree → From → List ℕ → Found (List Frame)
+abbrev pub framesIn : List Tree → From → List ℕ → Lookup (List TreeFrame)
 framesIn store Scratch j = found []
 framesIn store (Stop waiting steps) j = cond (leb waiting (frameRoom j)) (jobsIn store waiting j) nowhere
 
@@ -99,7 +99,7 @@ pub data Reply : Type 0 where
 
 -- 23 if f or x is no place in the store, 24 if the jobs are not sound, 40 if the steps are too many; else the machine gets the
 -- trees, the frames newest first, the fuel, the free slots and the places, and its steps count on
-abbrev pub replyTo : ToRun → ℕ → Found Tree → Found Tree → Found (List Frame) → Reply
+abbrev pub replyTo : ToRun → ℕ → Lookup Tree → Lookup Tree → Lookup (List TreeFrame) → Reply
 replyTo c free nowhere x frames = refused 23
 replyTo c free (found f) nowhere frames = refused 23
 replyTo c free (found f) (found x) nowhere = refused 24
@@ -126,21 +126,21 @@ pub record Table : Type 0 where
   pub used : ℕ
 
 -- our part stands after the words that the request brings, at base b
-abbrev pub answer : Calls → ℕ → Table → Request → Ran
-answer calls b t (to-run c) = calls (c .from) (c .before ++ t .words) (pos b) (c .f) (c .x) (t .used) (c .fuel) (c .jobs)
+abbrev pub called : Calls → ℕ → Table → Request → Ran
+called calls b t (to-run c) = calls (c .from) (c .before ++ t .words) (pos b) (c .f) (c .x) (t .used) (c .fuel) (c .jobs)
 
 abbrev pub tableAfter : ℕ → Table → Ran → Table
 tableAfter b t (ran w j a) =
-    record { words = drop b w; used = cond (started (numbers a .number)) (numbers a .used) (t .used) }
+    record { words = drop b w; used = cond (started (runNumbers a .number)) (runNumbers a .used) (t .used) }
 
 -- ---- both
 
 -- both refuse with one number, and nothing changes; or both answer, what they answer agrees, and the words before the base stay
 pub data Alike (t : Table) (c : Request) : Ran → Reply → Type 0 where
-  alike-refused : {a : RunAnswer} {n : ℕ} → numbers a ≡ refusal n → started n ≡ false
+  alike-refused : {a : RunAnswer} {n : ℕ} → runNumbers a ≡ refusalNumbers n → started n ≡ false
       → Alike t c (ran (beforeOf c ++ t .words) (jobsOf c) a) (refused n)
   alike-answered : {w j : List ℕ} {a : RunAnswer} {o : Outcome}
-      → Agrees (t .words) (t .used) (jobsOf c) w j (numbers a) o
+      → Agrees (t .words) (t .used) (jobsOf c) w j (runNumbers a) o
       → Alike t c (ran (beforeOf c ++ w) j a) (answered o)
 
 -- used slot i holds the store's tree i, slot zero the leaf; the used slots are sound
@@ -155,8 +155,8 @@ pub record Holding (w : List ℕ) (used : ℕ) (store : List Tree) : Type 0 wher
 abbrev pub AllAlike : Calls → ℕ → ℕ → Table → List Tree → List Request → Type 0
 AllAlike calls b most t store [] = Holding (t .words) (t .used) store × (room (t .words) ≡ most)
 AllAlike calls b most t store (c ∷ cs) =
-    Alike t c (answer calls b t c) (reply most store c)
-    × AllAlike calls b most (tableAfter b t (answer calls b t c)) (storeAfter store (reply most store c)) cs
+    Alike t c (called calls b t c) (reply most store c)
+    × AllAlike calls b most (tableAfter b t (called calls b t c)) (storeAfter store (reply most store c)) cs
 
 -- From any table whose used slots hold a store of trees, any list of requests goes as the machine does on that store,
 -- whatever stands before the base at each of them; and so with any calls that keep two promises of ours.
@@ -175,14 +175,14 @@ bare (to-run c) =
     to-run (record { from = c .from; before = []; f = c .f; x = c .x; fuel = c .fuel; jobs = c .jobs })
 
 -- what a call leaves from the base on, with its frame table and its answer
-abbrev pub fromBase : ℕ → Ran → Ran
-fromBase b (ran w j a) = ran (drop b w) j a
+abbrev pub ourPart : ℕ → Ran → Ran
+ourPart b (ran w j a) = ran (drop b w) j a
 
 -- that of each request of a list
 abbrev pub leftBy : Calls → ℕ → Table → List Request → List Ran
 leftBy calls b t [] = []
 leftBy calls b t (c ∷ cs) =
-    fromBase b (answer calls b t c) ∷ leftBy calls b (tableAfter b t (answer calls b t c)) cs
+    ourPart b (called calls b t c) ∷ leftBy calls b (tableAfter b t (called calls b t c)) cs
 
 -- Whatever the receiver writes before the base between two requests, the list goes as on our part alone.
 abbrev pub SessionBlind : Type 0

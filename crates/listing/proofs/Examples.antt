@@ -5,7 +5,7 @@ use mathlib.Core.List.{List, [], _∷_, _++_}
 use Rattle.wire.specs.Wire.{ascii}
 use Rattle.loader.specs.declared.LoadAnswer.the-variants.{Refused, Accepted}
 use Rattle.loader.specs.Load.{loaded}
-use Rattle.listing.specs.Text.{digits, newline}
+use Rattle.text.specs.Text.{digits, newline}
 use Rattle.listing.specs.Listing.{line, lines, refusedLine, okLine, report}
 
 -- a bundle of one leaf, exported as `main`

@@ -1,24 +1,36 @@
 -- The lines of the exports of a sound bundle: a line more, and that all fit.
 use Prim.Native.Nat.{ℕ, _+_, _≤_, _<_}
-use mathlib.Core.Path.{_≡_, refl, sym, ap, _∙_}
-use mathlib.Core.List.{List, [], _++_, append-nil}
+use mathlib.Core.Path.{_≡_, ap, _∙_}
+use mathlib.Core.List.{List, [], _++_}
 use native.Mathlib.Omega.{arith}
 use lib.ListN.{length, take, getD, length-append, length-take}
+use Rattle.sizes.specs.Sizes.{nameSize}
+use Rattle.wire.specs.Wire.{span}
+use Rattle.wire.specs.declared.Part.{Part}
 use Rattle.manifest.specs.Content.{names}
-use Rattle.bundle.specs.Exports.{nameCall}
-use Rattle.soundness.proofs.Calls.{names-length}
+use Rattle.manifest.specs.Judged.{exportPlace}
+use Rattle.manifest.proofs.Names.{names-length}
+use Rattle.manifest.proofs.Counted.{few-exports}
+use Rattle.container.specs.Directory.{manifestSection}
+use Rattle.bundle.specs.declared.Verdict.{Verdict}
+use Rattle.bundle.specs.declared.Verdict.the-variants.{Refused}
+use Rattle.bundle.specs.Verdict.{described}
+use Rattle.bundle.specs.Exports.{nameAt}
+use Rattle.bundle.proofs.Stages.{names-of-all}
+use Rattle.bundle.proofs.Verdicts.{described-refused}
 use Rattle.loader.specs.Load.{exportsIn}
 use Rattle.listing.specs.Listing.{line, lines, okLine}
-use Rattle.listing.specs.Writing.{Put, Exported}
-use Rattle.listing.proofs.Putting.{then}
+use Rattle.listing.specs.Writing.{Exported, textBytes}
+use Rattle.text.specs.Put.{Put}
+use Rattle.text.proofs.Putting.{then}
 use Rattle.listing.proofs.Lines.{lines-more, lines-within, lines-most, ok-most}
-use Rattle.listing.proofs.Exports.{few-exports, short-names, name-at}
+use Rattle.listing.proofs.Exports.{short-names, name-at}
 
--- export i, and its name
-module _ {file slots : List ℕ} {count : ℕ} (x : Exported file slots count) {i : ℕ} (h : i < count) {name : List ℕ}
-    (e : name ≡ nameCall file i) where
+-- export i; p and name stand for the part that is its name and for its bytes, as the calls answered them
+module _ {file slots : List ℕ} {count : ℕ} (x : Exported file slots count) {i : ℕ} (h : i < count) {p : Part}
+    (ep : p ≡ nameAt file (exportPlace (manifestSection file) i)) {name : List ℕ} (e : name ≡ span file (p .start) (p .size)) where
   named : name ≡ getD (names (exportsIn file)) i []
-  named = e ∙ name-at file (x .clear) i
+  named = e ∙ name-at file (x .clear) i ep
 
   more : lines (take (i + 1) slots) (names (exportsIn file)) ≡
       lines (take i slots) (names (exportsIn file)) ++ line (getD slots i 0) name
@@ -29,7 +41,7 @@ module _ {file slots : List ℕ} {count : ℕ} (x : Exported file slots count) {
 
   pub line-fits : (at p room : ℕ) → at + length (lines (take count slots) (names (exportsIn file))) ≤ room →
       p ≡ at + length (lines (take i slots) (names (exportsIn file))) →
-      (length name ≤ 64) × (p + length (line (getD slots i 0) name) ≤ room)
+      (length name ≤ nameSize .most) × (p + length (line (getD slots i 0) name) ≤ room)
   line-fits at p room a b = (
     rw named (short-names file (x .clear) i),
     omega (
@@ -46,20 +58,20 @@ module _ {file slots : List ℕ} {count : ℕ} (x : Exported file slots count) {
       Put (lines (take (i + 1) slots) (names (exportsIn file))) before at after q
   line-put a b = rw more (then a b)
 
--- no line yet
-pub nothing-put : (slots : List ℕ) (ns : List (List ℕ)) (before : List ℕ) (at : ℕ) →
-    Put (lines (take 0 slots) ns) before at before at
-unfolding lines
-nothing-put slots ns before at = record { ends = omega arith; holds = sym (append-nil (take at before)); stays = refl }
+-- the check finds what it has; v stands for what it came to
+pub undescribed : {A : Type 0} {file slots : List ℕ} {count : ℕ} → Exported file slots count → {v : Verdict} → v ≡ described file →
+    {n : ℕ} → v ≡ Refused n → A
+undescribed {file = file} x e f =
+    let (k, some) = described-refused file e f in absurd (some (k ∙ names-of-all file (x .clear)))
 
--- the text of an accepted bundle fits 4096 bytes
+-- the text of an accepted bundle has room in that of any
 pub accepted-fits : {file slots : List ℕ} {count : ℕ} → Exported file slots count → (nodes : ℕ) →
-    length (okLine nodes count) + length (lines (take count slots) (names (exportsIn file))) ≤ 4096
+    length (okLine nodes count) + length (lines (take count slots) (names (exportsIn file))) ≤ textBytes
 accepted-fits {file} {slots} {count} x nodes =
     omega (
       arith,
       ok-most nodes count,
-      few-exports file (x .clear),
+      few-exports (manifestSection file),
       x .all,
       lines-most (take count slots) (names (exportsIn file)) (short-names file (x .clear)),
       length-take count slots,

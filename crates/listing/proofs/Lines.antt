@@ -5,9 +5,10 @@ use mathlib.Core.List.{List, [], _∷_, _++_, append-nil, append-assoc}
 use native.Mathlib.Numerals.{add-one}
 use native.Mathlib.Omega.{arith}
 use lib.ListN.{length, take, getD, length-append}
-use Rattle.listing.specs.Text.{decimal}
+use Rattle.sizes.specs.Sizes.{nameSize}
+use Rattle.text.specs.Text.{decimal}
 use Rattle.listing.specs.Listing.{line, lines, refusedLine, okLine}
-use Rattle.listing.proofs.Decimal.{digits-most}
+use Rattle.text.proofs.Decimal.{digits-most}
 
 pub line-length : (slot : ℕ) (name : List ℕ) →
     length (line slot name) ≡ length (decimal slot) + (length (decimal (length name)) + (length name + 3))
@@ -30,10 +31,10 @@ refused-fits n room h = omega (arith, refused-length n, digits-most 10 n)
 pub ok-most : (nodes exports : ℕ) → length (okLine nodes exports) ≤ 39
 ok-most nodes exports = omega (arith, ok-length nodes exports, digits-most 10 nodes, digits-most 10 exports)
 
-pub line-most : (slot : ℕ) (name : List ℕ) → length name ≤ 64 → length (line slot name) ≤ 87
+pub line-most : (slot : ℕ) (name : List ℕ) → length name ≤ nameSize .most → length (line slot name) ≤ 87
 line-most slot name h = omega (arith, line-length slot name, digits-most 10 slot, digits-most 10 (length name))
 
-pub lines-most : (slots : List ℕ) (names : List (List ℕ)) → ((i : ℕ) → length (getD names i []) ≤ 64) →
+pub lines-most : (slots : List ℕ) (names : List (List ℕ)) → ((i : ℕ) → length (getD names i []) ≤ nameSize .most) →
     length (lines slots names) ≤ 87 * length slots
 unfolding lines
 lines-most [] names h = omega arith

@@ -10,7 +10,7 @@ use Rattle.table.specs.Slots.{width}
 use Rattle.manifest.specs.Content.{names}
 use Rattle.loader.specs.declared.LoadAnswer.the-variants.{Refused, Accepted}
 use Rattle.loader.specs.Load.{exportsIn, Loaded, loaded, load}
-use Rattle.listing.specs.Text.{decimal, newline}
+use Rattle.text.specs.Text.{decimal, newline}
 
 -- slot, name length, name bytes
 unfoldable pub line : ℕ → List ℕ → List ℕ

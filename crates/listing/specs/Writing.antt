@@ -1,16 +1,14 @@
--- A lent buffer that is written from a place on.
-use Prim.Native.Nat.{ℕ, _+_, _≤_}
+-- What the lines of the exports are written from.
+use Prim.Native.Nat.{ℕ, _≤_}
 use mathlib.Core.Path.{_≡_}
-use mathlib.Core.List.{List, _++_}
-use lib.ListN.{length, take, drop}
+use mathlib.Core.List.{List}
+use lib.ListN.{length}
 use Rattle.bundle.specs.Checks.{refusal}
 use Rattle.loader.specs.Load.{exportsIn}
 
--- a text is put at a place of a buffer: it ends at the new place, and all bytes before and behind it stay
-pub record Put (text before : List ℕ) (at : ℕ) (after : List ℕ) (next : ℕ) : Type 0 where
-  pub ends : next ≡ at + length text
-  pub holds : take next after ≡ take at before ++ text
-  pub stays : drop next after ≡ drop next before
+-- what the text of any bundle has room in
+abbrev pub textBytes : ℕ
+textBytes = 4096
 
 -- the file is a sound bundle of so many exports, and the table has a slot for each
 pub record Exported (file slots : List ℕ) (count : ℕ) : Type 0 where

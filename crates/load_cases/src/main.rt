@@ -1,4 +1,4 @@
-// Loads each bundle that the input names into tables that are filled before, makes the runs that stand behind it on the same
+// Loads each bundle that the input names into tables that are filled before, makes the runs that stand after it on the same
 // table, and writes what load and run answer and what the tables hold then.
 ghost use Prim.Native.Nat.{_≤_};
 use cases::answers::run_line;
@@ -28,7 +28,7 @@ fn sent(n: u32) {
     decimal(n - 2147483648);
 }
 
-// A place of the input, not before low and not behind high.
+// A place of the input, not before low and not after high.
 fn within(at: usize, low: usize, high: usize) -> usize
     requires { ⌜ low ≤ high ⌝ }
     ensures { λ r. ⌜ (low ≤ r) × (r ≤ high) ⌝ }
@@ -215,7 +215,7 @@ fn show_run(words: &mut [u32], base: u32, s: &[u8], at: usize, used: u32) -> u32
     play(words, base, s, at, used, &mut jobs[0..n])
 }
 
-// So many runs from a place of the input on, each of four numbers; answers the place behind them.
+// So many runs from a place of the input on, each of four numbers; answers the place after them.
 fn show_runs(words: &mut [u32], base: u32, s: &[u8], start: usize, runs: u32, nodes: u32) -> usize {
     let mut at = start;
     let mut used = nodes;
@@ -228,7 +228,7 @@ fn show_runs(words: &mut [u32], base: u32, s: &[u8], start: usize, runs: u32, no
     at
 }
 
-// A load, and the runs whose count stands at a place of the input; answers the place behind them.
+// A load, and the runs whose count stands at a place of the input; answers the place after them.
 fn show_play(
     name: &[u8],
     words: &mut [u32],
@@ -241,7 +241,7 @@ fn show_play(
     show_runs(words, base, s, behind(at, 1), number(s, at), nodes)
 }
 
-// A case: the file's name behind its length, the table's length, the base, the export table's length, the runs behind their
+// A case: the file's name after its length, the table's length, the base, the export table's length, the runs after their
 // count. Answers where the next case stands.
 fn show_case(s: &[u8], at: usize) -> usize {
     let mut words: [u32; 2200] = [0; 2200];

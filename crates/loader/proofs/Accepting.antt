@@ -1,93 +1,111 @@
--- What an accepted load writes: the calls that write are met, and together write what they should; the load call's ways.
-use Prim.Native.Nat.{ℕ, _-_, _≤_}
-use mathlib.Core.Path.{_≡_, refl, sym, ap, _∙_}
+-- What an accepted load writes: the calls that write are met, and together write what they should.
+use Prim.Native.Nat.{ℕ, _≤_}
+use mathlib.Core.Path.{_≡_, sym, ap, _∙_}
 use mathlib.Core.List.{List, _++_}
 use native.Mathlib.Omega.{arith}
-use lib.IntN.{ℤ, pos, natAbs}
-use lib.ListN.{length, take, drop}
-use borrow.Rule.Slice.PartMut.{midOf, putMid}
-use borrow.Author.Tests.{ne-eqb}
+use lib.ListN.{length, drop}
+use borrow.Author.Tests.{ltb-false}
+use Rattle.refusals.specs.Refusals.{answer, rowHolds}
+use Rattle.refusals.proofs.Rows.{answer-clear, clear-row, by-refusal, by-pass}
 use Rattle.sizes.specs.Sizes.{nodesSize}
+use Rattle.wire.specs.Wire.{span}
 use Rattle.table.specs.Slots.{room}
-use Rattle.table.proofs.Tail.{tail-lent, tail-home}
+use Rattle.manifest_shape.specs.declared.Manifest.the-variants.{Shape}
+use Rattle.manifest_shape.specs.Shape.{manifestOf}
 use Rattle.manifest.specs.Judged.{exportsOf}
 use Rattle.nodes.specs.Records.{nodesOf, count}
-use Rattle.nodes.specs.Links.{Placing}
-use Rattle.bundle.specs.declared.references.Reference.the-variants.{Export}
-use Rattle.bundle.specs.Directory.{manifestSection, nodesSection}
-use Rattle.bundle.specs.References.{exportHashes, hashesFrom}
-use Rattle.bundle.proofs.Hashes.{export-hashes-length}
+use Rattle.container.specs.Directory.{manifestSection, nodesSection}
+use Rattle.references.specs.declared.Reference.the-variants.{Export}
+use Rattle.bundle.specs.declared.Outline.{Outline}
+use Rattle.references.specs.References.{hashesFrom}
+use Rattle.references.proofs.Hashes.{export-hashes-length}
 use Rattle.bundle.proofs.Stages.{sound-shaped, sound-closed, sound-whole}
+use Rattle.bundle.proofs.Verdicts.{contents-shape, contents-manifest, contents-nodes}
+use Rattle.loader.specs.declared.exports.ExportList.{ExportList}
 use Rattle.loader.specs.declared.LoadAnswer.{LoadAnswer}
 use Rattle.loader.specs.declared.LoadAnswer.the-variants.{Refused, Accepted}
 use Rattle.loader.specs.Written.{written, slotsNamed}
-use Rattle.loader.specs.Load.{recordsIn, loadRefusal, loaded, exportsWritten, accept, behind, acceptFrom, load}
-use Rattle.loader.specs.Ready.{Slotted, Ready, Loadable}
-use Rattle.loader.proofs.Fitting.{fit-room}
-use Rattle.loader.proofs.Refusals.{nodes-counted, bundle-clear, table-fits, exports-fit}
+use Rattle.loader.specs.Load.{recordsIn, exportsIn, loaded, exportsWritten, accept}
+use Rattle.loader.specs.Admit.{fitChecks, admitted}
+use Rattle.loader.specs.Ready.{Slotted, RecordsReady, ListedIn, Vetted, Writable}
+use Rattle.loader.proofs.Writing.{count-is}
 
--- s stands for the nodes section, as the call answered it
-module _ (file w out links slots : List ℕ) (h : Loadable file w out links slots) {s : List ℕ}
-    (es : s ≡ nodesSection file) where
-  slotted : Slotted (nodesOf s) slots
-  slotted =
-      rw es
-      record { few = h .placing .few; whole = sound-whole file refl (h .clear); slots-are = h .placing .slots-are }
-
-  pub records-ready : Ready s links slots × (length (nodesOf s) ≤ room w)
-  records-ready = (
-    record {
-      shape = rw es (sound-shaped file refl (h .clear));
-      closed = rw es (sound-closed file refl (h .clear));
-      slotted = slotted;
-      space = rw es (h .placing .space);
-      links-are = rw es (h .placing .links-are);
-    },
-    rw es (h .fits),
+-- ---- the writing
+module _ {m : List ℕ} {x : ExportList} {s links slots w out : List ℕ} (h : Writable m x s links slots w out) where
+  pub exports-ready : Slotted (nodesOf s) slots × (x .count ≤ length out) ×
+      (length (hashesFrom m Export (x .count) (x .at)) ≡ x .count)
+  exports-ready = (
+    h .records .slotted,
+    h .space,
+    ap length (h .listed .hashes) ∙ export-hashes-length (exportsOf m) ∙ sym (h .listed .all),
   )
 
-  pub nodes-few : {n : ℕ} → n ≡ count s → (n ≡ length (recordsIn file)) × (n ≤ nodesSize .most)
-  nodes-few en = let e = nodes-counted file refl (h .clear) es en in (e, omega (arith, h .placing .few))
+  -- n stands for the count of the records, as the call answered it
+  module _ {n : ℕ} (en : n ≡ count s) where
+    nodes-all : n ≡ length (nodesOf s)
+    nodes-all = count-is s en (h .records .shape)
 
-  -- m, k and at stand for the manifest section, the number of its exports and where they stand
-  module _ {m : List ℕ} (em : m ≡ manifestSection file) {k : ℕ} (at : ℕ) (ek : k ≡ length (exportsOf m))
-      (eh : hashesFrom m Export k at ≡ exportHashes (exportsOf m)) where
-    pub exports-ready : Slotted (nodesOf s) slots × (k ≤ length out) × (length (hashesFrom m Export k at) ≡ k)
-    exports-ready = (slotted, rw (ek, em) (h .space), ap length eh ∙ export-hashes-length (exportsOf m) ∙ sym ek)
+    pub nodes-few : n ≤ nodesSize .most
+    nodes-few = omega (arith, nodes-all, h .records .slotted .few)
 
     -- v and u stand for the tables that the calls left
-    pub accepted : {v u : List ℕ} {n : ℕ} → v ≡ written (nodesOf s) 0 (nodesOf s) w →
-        u ≡ slotsNamed (nodesOf s) (hashesFrom m Export k at) ++ drop k out → n ≡ count s →
-        loaded v u (Accepted n k) ≡ accept file w out
+    pub all-written : {v u : List ℕ} → v ≡ written (nodesOf s) 0 (nodesOf s) w →
+        u ≡ slotsNamed (nodesOf s) (hashesFrom m Export (x .count) (x .at)) ++ drop (x .count) out →
+        loaded v u (Accepted n (x .count)) ≡ accept (nodesOf s) (exportsOf m) w out
     unfolding accept exportsWritten
-    accepted ev eu en = rw (ev, eu, eh, ek, nodes-few en .0, es, em)
+    all-written ev eu = rw (ev, eu, h .listed .hashes, h .listed .all, nodes-all)
 
--- the load call: z is the base as it was passed on, read back from its bits
-module _ (file w out : List ℕ) (base : ℤ) {z : ℤ} (ez : z ≡ base) {r : ℕ} (e : r ≡ loadRefusal file w z out) where
-  pub load-refused : (r ≡ 0 → ⊥) → loaded w out (Refused r) ≡ load file w base out
-  unfolding load
-  load-refused n = rw (← ez, ← e, ne-eqb r 0 n)
+-- ---- 21 and 22: m and s stand for the sections, as they were lent; x for what the manifest lists, n and k for the node count and
+-- the room, and r for what the test answered
+module _ {file : List ℕ} {c : Outline} {links slots : List ℕ} (h : Vetted file c links slots) {m s : List ℕ}
+    (em : m ≡ span file (c .manifest .start) (c .manifest .size)) (es : s ≡ span file (c .nodes .start) (c .nodes .size)) where
+  manifest-is : m ≡ manifestSection file
+  manifest-is = em ∙ contents-manifest file (h .found)
 
-  module _ (y : r ≡ 0) where
-    -- the writing is met
-    pub load-ready : {links slots : List ℕ} → Placing (recordsIn file) links slots →
-        Loadable file (midOf (natAbs z) (length w - natAbs z) w) out links slots
-    load-ready p =
-        record {
-          clear = bundle-clear file w z out e y;
-          placing = p;
-          fits = rw (tail-lent (natAbs z) w) (fit-room w (length (recordsIn file)) z (table-fits file w z out e y) .1);
-          space = exports-fit file w z out e y;
-        }
+  nodes-are : s ≡ nodesSection file
+  nodes-are = es ∙ contents-nodes file (h .found)
 
-    -- and its table comes back behind the words before the base
-    pub load-behind : (b : ℕ) → base ≡ pos b → b ≤ length w → {w′ out′ : List ℕ} {a : LoadAnswer} →
-        loaded w′ out′ a ≡ accept file (midOf b (length w - b) w) out →
-        loaded (putMid b (length w - b) w w′) out′ a ≡ load file w base out
-    unfolding load acceptFrom
-    load-behind b eb h {w′} {out′} {a} g =
-        let zero : loadRefusal file w base out ≡ 0 = rw (← ez) (sym e ∙ y) in
-        let t : loaded w′ out′ a ≡ accept file (drop b w) out = g ∙ rw (tail-lent b w) in
-        ap (λ (l : List ℕ). loaded l out′ a) (tail-home b w w′ h)
-        ∙ ap (behind (take b w)) t
-        ∙ (rw (zero, eb))
+  pub admit-shape : manifestOf m ≡ Shape (c .layout)
+  admit-shape = rw manifest-is (contents-shape file (h .found))
+
+  ready : RecordsReady s links slots
+  ready =
+      rw nodes-are
+      record {
+        shape = sound-shaped file (h .clear);
+        closed = sound-closed file (h .clear);
+        slotted = record { few = h .placing .few; whole = sound-whole file (h .clear); slots-are = h .placing .slots-are };
+        space = h .placing .space;
+        links-are = h .placing .links-are;
+      }
+
+  module _ (w out : List ℕ) {x : ExportList} (lx : ListedIn m x) {n : ℕ} (en : n ≡ count s) {k : ℕ} (ek : k ≡ room w) {r : ℕ}
+      (er : r ≡ answer (fitChecks k (length out) n (x .count))) where
+    nodes-count : n ≡ length (nodesOf s)
+    nodes-count = count-is s en (ready .shape)
+
+    answered : r ≡ answer (fitChecks (room w) (length out) (length (recordsIn file)) (length (exportsIn file)))
+    answered = rw (← nodes-are, ← manifest-is, ← nodes-count, ← lx .all, ← ek) er
+
+    pub admit-refused : (r ≡ 0 → ⊥) → loaded w out (Refused r) ≡ admitted (recordsIn file) (exportsIn file) w out
+    unfolding admitted
+    admit-refused some = by-refusal (λ i. loaded w out (Refused i)) (accept (recordsIn file) (exportsIn file) w out) answered some
+
+    module _ (z : r ≡ 0) where
+      pub admit-writable : Writable m x s links slots w out
+      unfolding fitChecks rowHolds
+      admit-writable =
+          let rows = answer-clear (fitChecks k (length out) n (x .count)) (omega arith) er z in
+          record {
+            records = ready;
+            fits = omega (arith, nodes-count, ek, ltb-false k n (clear-row 21 rows));
+            listed = lx;
+            space = ltb-false (length out) (x .count) (clear-row 22 rows);
+          }
+
+      pub admit-written : {v u : List ℕ} {a : LoadAnswer} → loaded v u a ≡ accept (nodesOf s) (exportsOf m) w out →
+          loaded v u a ≡ admitted (recordsIn file) (exportsIn file) w out
+      unfolding admitted
+      admit-written e =
+          (rw (nodes-are, manifest-is) at e)
+          ∙ by-pass (λ i. loaded w out (Refused i)) (accept (recordsIn file) (exportsIn file) w out) answered z

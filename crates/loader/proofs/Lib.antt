@@ -3,6 +3,6 @@ pub mod Placements
 pub mod Writing
 pub mod ExportLaws
 pub mod Naming
-pub mod Fitting
 pub mod Refusals
 pub mod Accepting
+pub mod Loading

@@ -8,7 +8,7 @@ use Rattle.table.specs.declared.slots.Slot.{Slot}
 use Rattle.table.specs.declared.slots.Node.{Node}
 use Rattle.table.specs.declared.slots.Node.the-variants.{Leaf, Stem, Fork}
 use Rattle.table.specs.Slots.{room, Below}
-use Rattle.placing.specs.Circles.{Child as Linked, first, second}
+use Rattle.placing.specs.Circles.{ChildLink as Linked, first, second}
 use Rattle.loader.specs.Ready.{PlacedAt, slotAt, linked}
 
 -- x and y stand for the slots of the children, as the calls answered them

@@ -7,22 +7,22 @@ use native.Mathlib.Numerals.{add-one}
 use lib.ListN.{length, getD}
 use lib.Seq.{getD-take}
 use borrow.Author.Tests.{ltb-false}
-use Rattle.wire.specs.Wire.{indexOf}
-use Rattle.wire.specs.Relations.{Among, here, there}
-use Rattle.wire.specs.declared.Found.{Found}
-use Rattle.wire.specs.declared.Found.the-variants.{Index, Nothing}
-use Rattle.wire.proofs.Index.{index-is, index-none}
+use Rattle.lists.specs.Lists.{indexOf}
+use Rattle.lists.specs.Among.{Among, here, there}
+use Rattle.lists.specs.declared.Found.{Found}
+use Rattle.lists.specs.declared.Found.the-variants.{Index, Nothing}
+use Rattle.lists.proofs.Index.{index-is, index-none}
 use Rattle.table.specs.declared.slots.Slot.{Slot}
 use Rattle.table.specs.Slots.{slot}
-use Rattle.placing.specs.Circles.{Child as Linked, first, second}
-use Rattle.nodes.specs.Records.{Node as Record, nodesOf, hashes}
+use Rattle.placing.specs.Circles.{ChildLink as Linked, first, second}
+use Rattle.nodes.specs.Records.{NodeRecord as Record, nodesOf, hashes}
 use Rattle.nodes.specs.Links.{linkTo, linkOf, firstLink, secondLink, linksOf, placedOf, circular}
 use Rattle.nodes.proofs.Children.{childrenAt, hashes-length, record-at, links-first, links-second}
 use Rattle.nodes.proofs.Children.{Kids, none, one, two, kids-view}
 use Rattle.nodes.proofs.Slots.{slots-laid, slot-some, slot-most, slot-lower}
-use Rattle.soundness.proofs.NodesTests.{there-exactly}
-use Rattle.loader.specs.Written.{slotOf, slotNamed, nodeOf}
-use Rattle.loader.specs.Ready.{Slotted, Ready, PlacedAt, slotAt, linked}
+use Rattle.nodes.proofs.FaultTests.{there-exactly}
+use Rattle.loader.specs.Written.{recordSlot, slotNamed, recordNode}
+use Rattle.loader.specs.Ready.{Slotted, RecordsReady, PlacedAt, slotAt, linked}
 
 module _ {rs : List Record} {slots : List ℕ} (h : Slotted rs slots) where
   all : length rs ≤ placedOf rs .count
@@ -44,8 +44,8 @@ module _ {rs : List Record} {slots : List ℕ} (h : Slotted rs slots) where
       let (a, b) = slot-there j m in
       (a, b, rw (h .slots-are) lower)
 
-  pub slot-is : (i : ℕ) → slotAt slots i ≡ slotOf rs i
-  unfolding slotOf
+  pub slot-is : (i : ℕ) → slotAt slots i ≡ recordSlot rs i
+  unfolding recordSlot
   slot-is i = rw (h .slots-are)
 
   -- the slot of the record with a hash; f and x stand for what the calls found
@@ -74,8 +74,8 @@ module _ {rs : List Record} {slots : List ℕ} (h : Slotted rs slots) where
 
   -- the node of the links of some children is the node of the children
   node-named : {cs : List (List ℕ)} → Kids cs → ((t : List ℕ) → Among t cs → Among t (hashes rs)) →
-      linked slots (firstLink rs cs) (secondLink rs cs) ≡ nodeOf rs cs
-  unfolding linked nodeOf firstLink secondLink
+      linked slots (firstLink rs cs) (secondLink rs cs) ≡ recordNode rs cs
+  unfolding linked recordNode firstLink secondLink
   node-named none there-all = refl
   node-named (one {a = a}) there-all =
       let (j, e, f) = named a (there-all a here) in rw (e, f)
@@ -85,7 +85,7 @@ module _ {rs : List Record} {slots : List ℕ} (h : Slotted rs slots) where
       rw (e, g, f, q)
 
 -- the same by the tables that are lent
-module _ {s links slots : List ℕ} (h : Ready s links slots) where
+module _ {s links slots : List ℕ} (h : RecordsReady s links slots) where
   abbrev rs : List Record
   rs = nodesOf s
 
@@ -107,7 +107,7 @@ module _ {s links slots : List ℕ} (h : Ready s links slots) where
           lower = λ j c. child-lower (h .slotted) i j l (linked-same j c);
         }
 
-    pub node-linked : linked slots (getD links (2 * i) 0) (getD links (2 * i + 1) 0) ≡ nodeOf rs (childrenAt rs i)
+    pub node-linked : linked slots (getD links (2 * i) 0) (getD links (2 * i + 1) 0) ≡ recordNode rs (childrenAt rs i)
     node-linked =
         rw (
           link-same (2 * i) (omega arith),

@@ -10,11 +10,11 @@ use lib.Seq.{drop-cons}
 use Rattle.table.specs.declared.slots.Slot.{Slot}
 use Rattle.table.specs.Slots.{room, putNode}
 use Rattle.table.proofs.SlotLaws.{room-long, length-put}
-use Rattle.nodes.specs.Records.{Node as Record, nodesOf, count, shaped}
+use Rattle.nodes.specs.Records.{NodeRecord as Record, nodesOf, count, shaped}
 use Rattle.nodes.proofs.Children.{childrenAt}
 use Rattle.nodes.proofs.Placing.{shaped-sized}
-use Rattle.loader.specs.Written.{slotOf, nodeOf, written}
-use Rattle.loader.specs.Ready.{Ready, PlacedAt, slotAt, linked}
+use Rattle.loader.specs.Written.{recordSlot, recordNode, written}
+use Rattle.loader.specs.Ready.{RecordsReady, PlacedAt, slotAt, linked}
 use Rattle.loader.proofs.Placements.{slot-is, slot-low, placed-at, node-linked}
 
 -- the records of a section are as many as it says; n stands for the count, as the call answered it
@@ -24,7 +24,7 @@ count-is s e h = rw (← e) (sym (shaped-sized s e h .all))
 
 written-next : (all : List Record) (i : ℕ) → i < length all → (w : List ℕ) →
     written all i (drop i all) w ≡
-    written all (i + 1) (drop (i + 1) all) (putNode w (slotOf all i .0) (nodeOf all (childrenAt all i)))
+    written all (i + 1) (drop (i + 1) all) (putNode w (recordSlot all i .0) (recordNode all (childrenAt all i)))
 unfolding written
 written-next all i l w = rw (drop-cons all i (record { hash = []; payload = [] }) l, ← add-one i)
 
@@ -47,7 +47,7 @@ module _ (s : List ℕ) (old : List ℕ) where
     stored-end l = sym (written-end (nodesOf s) i l w) ∙ f .rest
 
     -- where some are left
-    module _ {links slots : List ℕ} (h : Ready s links slots) (l : i < length (nodesOf s)) where
+    module _ {links slots : List ℕ} (h : RecordsReady s links slots) (l : i < length (nodesOf s)) where
       pub stored-fits : length (nodesOf s) ≤ room old → PlacedAt links slots i × (getD slots i 0 ≤ room w)
       stored-fits m = (placed-at h i l, omega (arith, slot-low (h .slotted) i l, room-long old w (f .long)))
 

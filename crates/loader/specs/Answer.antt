@@ -3,12 +3,12 @@ use Prim.Native.Nat.{ℕ}
 use Rattle.loader.specs.declared.LoadAnswer.{LoadAnswer}
 use Rattle.loader.specs.declared.LoadAnswer.the-variants.{Refused, Accepted}
 
-pub record Numbers : Type 0 where
+pub record LoadNumbers : Type 0 where
   pub number : ℕ
   pub nodes : ℕ
   pub exports : ℕ
 
 -- a refusal answers its number with every other number 0; an accepted load answers 0, the node count and the export count
-abbrev pub numbers : LoadAnswer → Numbers
-numbers (Refused n) = record { number = n; nodes = 0; exports = 0 }
-numbers (Accepted nodes exports) = record { number = 0; nodes = nodes; exports = exports }
+abbrev pub loadNumbers : LoadAnswer → LoadNumbers
+loadNumbers (Refused n) = record { number = n; nodes = 0; exports = 0 }
+loadNumbers (Accepted nodes exports) = record { number = 0; nodes = nodes; exports = exports }

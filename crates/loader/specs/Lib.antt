@@ -1,4 +1,5 @@
 pub mod Written
 pub mod Load
 pub mod Answer
+pub mod Admit
 pub mod Ready

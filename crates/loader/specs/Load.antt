@@ -1,18 +1,19 @@
 -- The load call: what it answers, and every word that it leaves in both tables.
 use Prim.Native.Nat.{ℕ}
-use mathlib.Core.Bool.{Bool, true, cond}
+use mathlib.Core.Bool.{Bool, true}
 use mathlib.Core.List.{List, [], _∷_, _++_}
-use lib.ListN.{length, take, drop}
-use lib.Dec.{ltb, eqb}
-use lib.IntN.{ℤ, pos, negsuc}
-use Rattle.wire.specs.Wire.{anyOf}
+use lib.ListN.{length, drop}
+use lib.Dec.{ltb}
+use lib.IntN.{ℤ}
+use Rattle.refusals.specs.Refusals.{Row, _when_, answer, unlessRefused}
+use Rattle.table.specs.Base.{fromBase}
 use Rattle.table.specs.Slots.{room}
 use Rattle.manifest.specs.Content.{Export}
 use Rattle.manifest.specs.Judged.{exportsOf}
-use Rattle.nodes.specs.Records.{Node as Record, nodesOf}
-use Rattle.bundle.specs.Directory.{manifestSection, nodesSection}
-use Rattle.bundle.specs.References.{exportHashes}
-use Rattle.bundle.specs.Checks.{Check, _when_, firstOf, checks}
+use Rattle.nodes.specs.Records.{NodeRecord as Record, nodesOf}
+use Rattle.container.specs.Directory.{manifestSection, nodesSection}
+use Rattle.references.specs.References.{exportHashes}
+use Rattle.bundle.specs.Checks.{checks}
 use Rattle.loader.specs.declared.LoadAnswer.{LoadAnswer}
 use Rattle.loader.specs.declared.LoadAnswer.the-variants.{Refused, Accepted}
 use Rattle.loader.specs.Written.{written, slotsNamed}
@@ -28,21 +29,20 @@ exportsIn file = exportsOf (manifestSection file)
 
 -- 21: base negative or past the end of the table, or room below the node count
 unfoldable pub unfit : List ℕ → ℤ → ℕ → Bool
-unfit w (negsuc b) n = true
-unfit w (pos b) n = anyOf (ltb (length w) b ∷ ltb (room (drop b w)) n ∷ [])
+unfit w base n = fromBase w base true (λ before part. ltb (room part) n)
 
 -- 22: export table shorter than the export count
 unfoldable pub crowded : List ℕ → ℕ → Bool
 crowded out m = ltb (length out) m
 
 -- 1 to 22
-unfoldable pub loadChecks : List ℕ → List ℕ → ℤ → List ℕ → List Check
+unfoldable pub loadChecks : List ℕ → List ℕ → ℤ → List ℕ → List Row
 loadChecks file w base out =
     checks file ++
     ((21 when unfit w base (length (recordsIn file))) ∷ (22 when crowded out (length (exportsIn file))) ∷ [])
 
 unfoldable pub loadRefusal : List ℕ → List ℕ → ℤ → List ℕ → ℕ
-loadRefusal file w base out = firstOf (loadChecks file w base out)
+loadRefusal file w base out = answer (loadChecks file w base out)
 
 -- ---- the call
 
@@ -55,21 +55,20 @@ unfoldable pub exportsWritten : List Record → List Export → List ℕ → Lis
 exportsWritten rs es out = slotsNamed rs (exportHashes es) ++ drop (length es) out
 
 -- the records in the part of the table that is ours, the export slots, and how many there are of each
-unfoldable pub accept : List ℕ → List ℕ → List ℕ → Loaded
-accept file w out =
-    loaded (written (recordsIn file) 0 (recordsIn file) w) (exportsWritten (recordsIn file) (exportsIn file) out)
-    (Accepted (length (recordsIn file)) (length (exportsIn file)))
+unfoldable pub accept : List Record → List Export → List ℕ → List ℕ → Loaded
+accept rs es w out = loaded (written rs 0 rs w) (exportsWritten rs es out) (Accepted (length rs) (length es))
 
-abbrev pub behind : List ℕ → Loaded → Loaded
-behind before (loaded w out a) = loaded (before ++ w) out a
+-- with the words before the base, which keep their contents
+abbrev pub loadedWith : List ℕ → Loaded → Loaded
+loadedWith before (loaded w out a) = loaded (before ++ w) out a
 
--- the words before the base keep their contents; a negative base has been refused
+-- a base outside the table has been refused
 unfoldable pub acceptFrom : List ℕ → List ℕ → ℤ → List ℕ → Loaded
-acceptFrom file w (negsuc b) out = loaded w out (Refused 21)
-acceptFrom file w (pos b) out = behind (take b w) (accept file (drop b w) out)
+acceptFrom file w base out =
+    fromBase w base (loaded w out (Refused 21))
+    (λ before part. loadedWith before (accept (recordsIn file) (exportsIn file) part out))
 
 -- a refusal changes nothing
 unfoldable pub load : List ℕ → List ℕ → ℤ → List ℕ → Loaded
 load file w base out =
-    cond (eqb (loadRefusal file w base out) 0) (acceptFrom file w base out)
-    (loaded w out (Refused (loadRefusal file w base out)))
+    unlessRefused (loadRefusal file w base out) (λ n. loaded w out (Refused n)) (acceptFrom file w base out)

@@ -9,13 +9,20 @@ use Rattle.table.specs.declared.slots.Slot.{Slot}
 use Rattle.table.specs.declared.slots.Node.{Node}
 use Rattle.table.specs.declared.slots.Node.the-variants.{Leaf, Stem, Fork}
 use Rattle.table.specs.Slots.{slot, room}
-use Rattle.sizes.specs.Sizes.{nodesSize}
-use Rattle.placing.specs.Circles.{Child as Linked}
-use Rattle.nodes.specs.declared.faults.Fault.the-variants.{Child}
-use Rattle.nodes.specs.Records.{Node as Record, shaped, nodesOf, someFaulty}
-use Rattle.nodes.specs.Links.{linksOf, placedOf, circular, Placing}
+use Rattle.sizes.specs.Sizes.{exportsSize, nodesSize}
+use Rattle.manifest.specs.Judged.{exportsOf}
+use Rattle.placing.specs.Circles.{ChildLink as Linked}
+use Rattle.nodes.specs.declared.faults.RecordFault.the-variants.{Child}
+use Rattle.nodes.specs.Records.{NodeRecord as Record, shaped, nodesOf, someRecord}
+use Rattle.nodes.specs.Links.{linksOf, placedOf, circular, PlacedTables}
+use Rattle.references.specs.declared.Reference.the-variants.{Export}
+use Rattle.references.specs.References.{exportHashes, hashesFrom}
+use Rattle.bundle.specs.declared.Outline.{Outline}
+use Rattle.bundle.specs.declared.Verdict.the-variants.{Passed}
 use Rattle.bundle.specs.Checks.{refusal}
-use Rattle.loader.specs.Load.{recordsIn, exportsIn}
+use Rattle.bundle.specs.Verdict.{described}
+use Rattle.loader.specs.declared.exports.ExportList.{ExportList}
+use Rattle.loader.specs.Load.{recordsIn}
 
 -- all records are placed, and their slots are at hand
 pub record Slotted (rs : List Record) (slots : List ℕ) : Type 0 where
@@ -24,9 +31,9 @@ pub record Slotted (rs : List Record) (slots : List ℕ) : Type 0 where
   pub slots-are : slots ≡ placedOf rs .slots
 
 -- every child of a section's records has a record, all are placed, and their links and slots are at hand
-pub record Ready (s links slots : List ℕ) : Type 0 where
+pub record RecordsReady (s links slots : List ℕ) : Type 0 where
   pub shape : shaped s ≡ true
-  pub closed : someFaulty Child (nodesOf s) (nodesOf s) ≡ false
+  pub closed : someRecord Child (nodesOf s) (nodesOf s) ≡ false
   pub slotted : Slotted (nodesOf s) slots
   pub space : 2 * length (nodesOf s) ≤ length links
   pub links-are : take (2 * length (nodesOf s)) links ≡ linksOf (nodesOf s)
@@ -47,9 +54,21 @@ linked slots zero b = Leaf
 linked slots (suc a) zero = Stem (slotAt slots a)
 linked slots (suc a) (suc b) = Fork (slotAt slots a) (slotAt slots b)
 
--- a bundle that nothing refuses, the part of the table that is ours, the export table, and the links and slots of its records
-pub record Loadable (file w out links slots : List ℕ) : Type 0 where
+-- how many exports a manifest section lists, and where they stand
+pub record ListedIn (m : List ℕ) (x : ExportList) : Type 0 where
+  pub all : x .count ≡ length (exportsOf m)
+  pub hashes : hashesFrom m Export (x .count) (x .at) ≡ exportHashes (exportsOf m)
+  pub few : x .count ≤ exportsSize .most
+
+-- a bundle that 1 to 20 let pass, what it has, and the links and slots of its records
+pub record Vetted (file : List ℕ) (c : Outline) (links slots : List ℕ) : Type 0 where
   pub clear : refusal file ≡ 0
-  pub placing : Placing (recordsIn file) links slots
-  pub fits : length (recordsIn file) ≤ room w
-  pub space : length (exportsIn file) ≤ length out
+  pub found : described file ≡ Passed c
+  pub placing : PlacedTables (recordsIn file) links slots
+
+-- a manifest section m and a nodes section s of such a bundle, for which both tables have room
+pub record Writable (m : List ℕ) (x : ExportList) (s links slots w out : List ℕ) : Type 0 where
+  pub records : RecordsReady s links slots
+  pub fits : length (nodesOf s) ≤ room w
+  pub listed : ListedIn m x
+  pub space : x .count ≤ length out

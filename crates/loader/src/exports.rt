@@ -3,38 +3,35 @@ ghost use mathlib.Core.Path.{_≡_};
 ghost use mathlib.Core.List.{_++_};
 ghost use Prim.Native.Nat.{_≤_};
 ghost use lib.ListN.{length, drop};
-ghost use Rattle.sizes.specs.Sizes.{exportsSize};
 ghost use Rattle.manifest_shape.specs.declared.Manifest.the-variants.{Shape};
 ghost use Rattle.manifest_shape.specs.Shape.{manifestOf};
-ghost use Rattle.manifest.specs.Judged.{exportsOf};
 ghost use Rattle.nodes.specs.Records.{nodesOf};
-ghost use Rattle.bundle.specs.References.{exportHashes, hashesFrom};
+ghost use Rattle.references.specs.References.{hashesFrom};
 ghost use Rattle.loader.specs.Written.{slotNamed, slotsNamed};
-ghost use Rattle.loader.specs.Ready.{Slotted};
+ghost use Rattle.loader.specs.Ready.{Slotted, ListedIn};
 use crate::records::slot_at;
-use bundle::references::Reference;
-use bundle::references::reference_end;
-use bundle::references::reference_hash;
+use lists::Found;
 use manifest::content::count_at;
 use manifest_shape::Layout;
 use manifest_shape::parts::Parsed;
 use nodes::find::find_record;
-use wire::Found;
+use references::Reference;
+use references::reference_end;
+use references::reference_hash;
 
-// How many exports a manifest section lists, and where they stand: behind their count, by its layout.
-pub struct Listed {
+// How many exports a manifest section lists, and where they stand: after their count.
+pub struct ExportList {
     pub count: u64,
     pub at: usize,
 }
 
-pub(crate) fn list_exports(m: &[u8], l: Layout) -> Listed
+// By the section's layout.
+pub(crate) fn list_exports(m: &[u8], l: Layout) -> ExportList
     requires { ⌜ manifestOf (now m) ≡ Shape l ⌝ }
-    ensures { λ r. ⌜ (r .count ≡ length (exportsOf (now (m .entry))))
-        × (hashesFrom (now (m .entry)) Reference.Export (r .count) (r .at) ≡ exportHashes (exportsOf (now (m .entry))))
-        × (r .count ≤ exportsSize .most) ⌝ }
+    ensures { λ r. ⌜ ListedIn (now (m .entry)) r ⌝ }
 {
     let at = l.exports;
-    Listed {
+    ExportList {
         count: count_at(m, at),
         at: at + 4,
     }

@@ -1,28 +1,25 @@
 // The load call: checks a bundle, writes its nodes in their slots and the slots of its exports.
 ghost use mathlib.Core.Path.{_≡_};
-ghost use Rattle.manifest_shape.specs.declared.Manifest.the-variants.{Shape};
-ghost use Rattle.manifest_shape.specs.Shape.{manifestOf};
-ghost use Rattle.nodes.specs.Links.{Scratch, Placing};
-ghost use Rattle.bundle.specs.Directory.{manifestSection};
-ghost use Rattle.bundle.specs.Verdict.{numberOf, Laid};
-ghost use Rattle.loader.specs.Load.{recordsIn, loadRefusal, loaded, accept, load};
-ghost use Rattle.loader.specs.Ready.{Loadable};
+ghost use Rattle.refusals.specs.Refusals.{answer};
+ghost use Rattle.nodes.specs.Records.{nodesOf};
+ghost use Rattle.manifest.specs.Judged.{exportsOf};
+ghost use Rattle.loader.specs.Load.{recordsIn, exportsIn, loaded, accept, load};
+ghost use Rattle.loader.specs.Admit.{startOf, fitChecks, admitted};
+ghost use Rattle.loader.specs.Ready.{Vetted, Writable};
+use crate::exports::ExportList;
 use crate::exports::list_exports;
 use crate::exports::put_exports;
-use crate::fit::unfit;
 use crate::records::put_records;
+use bundle::Outline;
 use bundle::Verdict;
 use bundle::check_and_place;
-use bundle::directory::MANIFEST;
-use bundle::directory::NODES;
-use bundle::directory::section;
-use manifest_shape::Layout;
 use nodes::links::LINK_WORDS;
 use nodes::links::SLOT_WORDS;
 use nodes::records::count;
+use table::base::Base;
+use table::slots::room;
 
 mod exports;
-mod fit;
 mod records;
 
 // What a load answers; specs/Answer.antt gives the paper's numbers for each case.
@@ -32,58 +29,74 @@ pub enum LoadAnswer {
     Accepted { nodes: u32, exports: u32 },
 }
 
-// 1 to 22, and where none holds the links of the records and their slots.
-fn judge(
-    file: &[u8],
-    words: &[u32],
-    base: i32,
-    exports: &[u32],
-    links: &mut [u32],
-    slots: &mut [u32],
-) -> Verdict
-    requires { ⌜ Scratch (now links) (now slots) ⌝ }
-    ensures { λ r. ⌜ (numberOf r ≡ loadRefusal (now (file .entry)) (now (words .entry)) base (now (exports .entry)))
-        × Laid (manifestSection (now (file .entry))) r
-        × (numberOf r ≡ 0 → Placing (recordsIn (now (file .entry))) (now (links .exit)) (now (slots .exit))) ⌝ }
+// Where our part of a table of so many words starts. A base outside the table leaves it no words, so that no bundle fits.
+fn start(base: i32, len: usize) -> usize
+    ensures { λ r. ⌜ r ≡ startOf base len ⌝ }
 {
-    match check_and_place(file, links, slots) {
-        Verdict::Refused(n) => Verdict::Refused(n),
-        Verdict::Passed(l) => {
-            if unfit(words, base, count(section(file, NODES))) {
-                return Verdict::Refused(21);
-            }
-            let asked = list_exports(section(file, MANIFEST), l);
-            if (exports.len() as u64) < asked.count {
-                return Verdict::Refused(22);
-            }
-            Verdict::Passed(l)
-        }
+    match Base::of(base, len) {
+        Base::At(at) => at,
+        Base::Outside => len,
     }
 }
 
-// Writes what an accepted bundle has: its records, and the slots of its exports.
+// 21 and 22, of a bundle with so many nodes and exports: room for fewer nodes, or fewer words for exports.
+fn check_fit(most: u32, space: usize, nodes: u64, exports: u64) -> u32
+    ensures { λ r. ⌜ r ≡ answer (fitChecks most space nodes exports) ⌝ }
+{
+    if (most as u64) < nodes {
+        return 21;
+    }
+    if (space as u64) < exports {
+        return 22;
+    }
+    0
+}
+
+// Writes what an accepted bundle has: the records of its nodes section s, and the slots of the exports in its manifest section m.
 fn write(
-    file: &[u8],
-    l: Layout,
+    m: &[u8],
+    asked: ExportList,
+    s: &[u8],
     links: &[u32],
     slots: &[u32],
     words: &mut [u32],
     exports: &mut [u32],
 ) -> LoadAnswer
-    requires { ⌜ (manifestOf (manifestSection (now file)) ≡ Shape l)
-        × Loadable (now file) (now words) (now exports) (now links) (now slots) ⌝ }
+    requires { ⌜ Writable (now m) asked (now s) (now links) (now slots) (now words) (now exports) ⌝ }
     ensures { λ r. ⌜ loaded (now (words .exit)) (now (exports .exit)) r
-        ≡ accept (now (file .entry)) (now (words .entry)) (now (exports .entry)) ⌝ }
+        ≡ accept (nodesOf (now (s .entry))) (exportsOf (now (m .entry))) (now (words .entry)) (now (exports .entry)) ⌝ }
 {
-    let s = section(file, NODES);
-    let m = section(file, MANIFEST);
-    let asked = list_exports(m, l);
     put_records(s, links, slots, words);
     put_exports(m, asked.count as usize, asked.at, s, slots, exports);
     LoadAnswer::Accepted {
         nodes: count(s) as u32,
         exports: asked.count as u32,
     }
+}
+
+// Writes a bundle that 1 to 20 let pass, where 21 and 22 let it pass, too.
+fn admit(
+    file: &[u8],
+    c: Outline,
+    links: &[u32],
+    slots: &[u32],
+    words: &mut [u32],
+    exports: &mut [u32],
+) -> LoadAnswer
+    requires { ⌜ Vetted (now file) c (now links) (now slots) ⌝ }
+    ensures { λ r. ⌜ loaded (now (words .exit)) (now (exports .exit)) r
+        ≡ admitted (recordsIn (now (file .entry))) (exportsIn (now (file .entry))) (now (words .entry)) (now (exports .entry)) ⌝ }
+{
+    let manifest = c.manifest;
+    let nodes = c.nodes;
+    let m = manifest.of(file);
+    let s = nodes.of(file);
+    let asked = list_exports(m, c.layout);
+    let refused = check_fit(room(words), exports.len(), count(s), asked.count);
+    if refused != 0 {
+        return LoadAnswer::Refused(refused);
+    }
+    write(m, asked, s, links, slots, words, exports)
 }
 
 // Loads the bundle into the table that starts at word base, and the slots of its exports into the export table.
@@ -93,11 +106,11 @@ pub fn load(file: &[u8], words: &mut [u32], base: i32, exports: &mut [u32]) -> L
 {
     let mut links: [u32; LINK_WORDS] = [0; LINK_WORDS];
     let mut slots: [u32; SLOT_WORDS] = [0; SLOT_WORDS];
-    match judge(file, words, base, exports, &mut links, &mut slots) {
+    match check_and_place(file, &mut links, &mut slots) {
         Verdict::Refused(n) => LoadAnswer::Refused(n),
-        Verdict::Passed(l) => {
-            let at = base as usize;
-            write(file, l, &links, &slots, &mut words[at..], exports)
+        Verdict::Passed(c) => {
+            let at = start(base, words.len());
+            admit(file, c, &links, &slots, &mut words[at..], exports)
         }
     }
 }

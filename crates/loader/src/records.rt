@@ -5,7 +5,7 @@ ghost use lib.ListN.{length, getD};
 ghost use Rattle.table.specs.Slots.{room, putNode};
 ghost use Rattle.nodes.specs.Records.{nodesOf};
 ghost use Rattle.loader.specs.Written.{written};
-ghost use Rattle.loader.specs.Ready.{Ready, PlacedAt, slotAt, linked};
+ghost use Rattle.loader.specs.Ready.{RecordsReady, PlacedAt, slotAt, linked};
 use nodes::records::count;
 use table::slots::Node;
 use table::slots::Slot;
@@ -49,7 +49,7 @@ fn put_record(links: &[u32], slots: &[u32], i: usize, words: &mut [u32])
 
 // Writes all records of a section.
 pub(crate) fn put_records(s: &[u8], links: &[u32], slots: &[u32], words: &mut [u32])
-    requires { ⌜ Ready (now s) (now links) (now slots) × (length (nodesOf (now s)) ≤ room (now words)) ⌝ }
+    requires { ⌜ RecordsReady (now s) (now links) (now slots) × (length (nodesOf (now s)) ≤ room (now words)) ⌝ }
     ensures { λ _. ⌜ now (words .exit)
         ≡ written (nodesOf (now (s .entry))) 0 (nodesOf (now (s .entry))) (now (words .entry)) ⌝ }
 {

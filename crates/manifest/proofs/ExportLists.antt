@@ -1,15 +1,13 @@
 -- Laws of what is asked of a list of exports: by its first export, and where it has none.
-use Prim.Native.Nat.{ℕ, suc, _+_, _-_, _≤_}
+use Prim.Native.Nat.{ℕ, _+_}
 use mathlib.Core.Path.{_≡_}
 use mathlib.Core.List.{List, [], _∷_}
 use mathlib.Core.Bool.{Bool, true, false}
-use native.Mathlib.Omega.{arith}
-use lib.ListN.{getD}
-use Rattle.wire.specs.Wire.{sameBytes, indexOf, someOf}
-use Rattle.wire.specs.declared.Found.the-variants.{Index, Nothing}
+use Rattle.lists.specs.Lists.{sameBytes, indexOf, someOf}
+use Rattle.lists.specs.declared.Found.the-variants.{Index, Nothing}
 use Rattle.manifest.specs.Content.{Export, names}
-use Rattle.manifest.specs.Judged.{faulty, someFaulty}
-use Rattle.manifest.specs.declared.exports.Fault.{Fault}
+use Rattle.manifest.specs.Judged.{exportFaulty, someExport}
+use Rattle.manifest.specs.declared.exports.ExportFault.{ExportFault}
 
 module _ {es : List Export} where
   module _ {e : Export} {rest : List Export} (first : es ≡ e ∷ rest) where
@@ -23,13 +21,13 @@ module _ {es : List Export} where
       unfolding names indexOf
       find-later h = rw (first, ← n, ← same, h)
 
-    module _ (fault : Fault) {b : Bool} (test : b ≡ faulty fault e rest) where
-      pub fault-here : b ≡ true → someFaulty fault es ≡ true
-      unfolding someFaulty someOf
+    module _ (fault : ExportFault) {b : Bool} (test : b ≡ exportFaulty fault e rest) where
+      pub fault-here : b ≡ true → someExport fault es ≡ true
+      unfolding someExport someOf
       fault-here h = rw (first, ← test, h)
 
-      pub fault-later : b ≡ false → someFaulty fault es ≡ someFaulty fault rest
-      unfolding someFaulty someOf
+      pub fault-later : b ≡ false → someExport fault es ≡ someExport fault rest
+      unfolding someExport someOf
       fault-later h = rw (first, ← test, h)
 
   module _ (none : es ≡ []) where
@@ -37,6 +35,6 @@ module _ {es : List Export} where
     unfolding names indexOf
     find-none t i = rw none
 
-    pub fault-none : (fault : Fault) → someFaulty fault es ≡ false
-    unfolding someFaulty someOf
+    pub fault-none : (fault : ExportFault) → someExport fault es ≡ false
+    unfolding someExport someOf
     fault-none fault = rw none

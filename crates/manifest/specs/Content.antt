@@ -3,13 +3,14 @@
 use Prim.Native.Nat.{ℕ, zero, suc, _+_}
 use mathlib.Core.List.{List, [], _∷_}
 use Rattle.wire.specs.Wire.{numberAt, span, onNumber, orZero}
+use Rattle.sizes.specs.Sizes.{hashBytes}
 use Rattle.manifest_shape.specs.declared.parts.Parsed.{Parsed}
-use Rattle.manifest_shape.specs.declared.parts.Parsed.the-variants.{To, Bad}
+use Rattle.manifest_shape.specs.declared.parts.Parsed.the-variants.{To}
 use Rattle.manifest_shape.specs.Shape.{onParsed, andThen, bytesEnd, sizedEnd}
 
--- behind a root, and behind an export
+-- after a root, and after an export
 unfoldable pub rootPast : List ℕ → ℕ → Parsed
-rootPast s at = andThen (bytesEnd s at 32) (λ p. sizedEnd s p)
+rootPast s at = andThen (bytesEnd s at hashBytes) (λ p. sizedEnd s p)
 
 unfoldable pub exportPast : List ℕ → ℕ → Parsed
 exportPast s at = andThen (sizedEnd s at) (λ p. andThen (rootPast s p) (λ q. sizedEnd s q))
@@ -28,19 +29,19 @@ pub record Export : Type 0 where
 unfoldable pub textAt : List ℕ → Parsed → List ℕ
 textAt s p = onParsed p (λ at. onNumber (numberAt 4 s at) (λ n. span s (at + 4) n) []) []
 
--- the 32 bytes that stand at a position
+-- the bytes of a hash that stand at a position
 unfoldable pub hashAt : List ℕ → Parsed → List ℕ
-hashAt s p = onParsed p (λ at. span s at 32) []
+hashAt s p = onParsed p (λ at. span s at hashBytes) []
 
 abbrev pub rootAt : List ℕ → ℕ → Root
-rootAt s at = record { hash = hashAt s (To at); role = textAt s (bytesEnd s at 32) }
+rootAt s at = record { hash = hashAt s (To at); role = textAt s (bytesEnd s at hashBytes) }
 
 abbrev pub exportAt : List ℕ → ℕ → Export
 exportAt s at =
     record {
       name = textAt s (To at);
       hash = hashAt s (sizedEnd s at);
-      kind = textAt s (andThen (sizedEnd s at) (λ p. bytesEnd s p 32));
+      kind = textAt s (andThen (sizedEnd s at) (λ p. bytesEnd s p hashBytes));
       abi = textAt s (andThen (sizedEnd s at) (λ p. rootPast s p));
     }
 
@@ -66,7 +67,7 @@ placesFrom s n at = listFrom (exportPast s) (λ p. To p) n at
 unfoldable pub countAt : List ℕ → ℕ → ℕ
 countAt s at = orZero (numberAt 4 s at)
 
--- the things behind the count that stands at a position
+-- the things after the count that stands at a position
 unfoldable pub rootsAt : List ℕ → ℕ → List Root
 rootsAt s at = onNumber (numberAt 4 s at) (λ n. rootsFrom s n (at + 4)) []
 

@@ -1,21 +1,21 @@
 -- What is judged of a manifest that has the stated shape: 13 and 14. And its exports by index and by name.
-use Prim.Native.Nat.{ℕ, _+_}
+use Prim.Native.Nat.{ℕ}
 use mathlib.Core.List.{List, [], _∷_}
 use mathlib.Core.Bool.{Bool, true, false, not, cond}
 use lib.ListN.{length, getD}
 use lib.Dec.{eqb}
-use Rattle.wire.specs.Wire.{sameBytes, numberAt, indexOf, found, anyOf, someOf, ascii, orZero}
-use Rattle.wire.specs.declared.Found.{Found}
-use Rattle.wire.specs.declared.Found.the-variants.{Nothing}
-use Rattle.sizes.specs.Sizes.{within, nameSize}
+use Rattle.wire.specs.Wire.{numberAt, ascii, orZero}
+use Rattle.lists.specs.Lists.{sameBytes, indexOf, found, anyOf, someOf}
+use Rattle.lists.specs.declared.Found.{Found}
+use Rattle.sizes.specs.Sizes.{within, capabilitiesSize, nameSize}
 use Rattle.manifest_shape.specs.declared.parts.Parsed.{Parsed}
 use Rattle.manifest_shape.specs.declared.parts.Parsed.the-variants.{To, Bad}
 use Rattle.manifest_shape.specs.declared.Layout.{Layout}
 use Rattle.manifest_shape.specs.declared.Manifest.{Manifest}
 use Rattle.manifest_shape.specs.declared.Manifest.the-variants.{Shape, Malformed}
 use Rattle.manifest.specs.declared.strings.Walk.{Walk}
-use Rattle.manifest.specs.declared.exports.Fault.{Fault}
-use Rattle.manifest.specs.declared.exports.Fault.the-variants.{Abi, NameSize, NameTwice}
+use Rattle.manifest.specs.declared.exports.ExportFault.{ExportFault}
+use Rattle.manifest.specs.declared.exports.ExportFault.the-variants.{Abi, NameSize, NameTwice}
 use Rattle.manifest_shape.specs.Shape.{andThen, sizedEnd, manifestOf}
 use Rattle.manifest.specs.Content.{Root, Export, textAt, countAt, rootsAt, exportsAt, placesAt, names}
 
@@ -45,7 +45,7 @@ abbrev pub meets : List ℕ → Wanted → Bool
 meets t (exactly w) = sameBytes t w
 meets t anyText = true
 
--- behind one more string, and whether it and all before it are as wanted
+-- after one more string, and whether it and all before it are as wanted
 unfoldable pub past : List ℕ → Walk → Wanted → Walk
 past s walk wanted =
     record {
@@ -61,15 +61,15 @@ pastAll s walk (w ∷ ws) = pastAll s (past s walk w) ws
 unfoldable pub stringsAgree : List ℕ → ℕ → Bool
 stringsAgree s at = pastAll s (record { at = To at; same = true }) nineStrings .same
 
--- an export's fault; `rest` are the exports behind it
-unfoldable pub faulty : Fault → Export → List Export → Bool
-faulty Abi e rest = not (sameBytes (e .abi) abiName)
-faulty NameSize e rest = not (within nameSize (length (e .name)))
-faulty NameTwice e rest = found (indexOf (e .name) 0 (names rest))
+-- an export's fault; `rest` are the exports after it
+unfoldable pub exportFaulty : ExportFault → Export → List Export → Bool
+exportFaulty Abi e rest = not (sameBytes (e .abi) abiName)
+exportFaulty NameSize e rest = not (within nameSize (length (e .name)))
+exportFaulty NameTwice e rest = found (indexOf (e .name) 0 (names rest))
 
 -- some export has the fault
-unfoldable pub someFaulty : Fault → List Export → Bool
-someFaulty fault es = someOf (faulty fault) es
+unfoldable pub someExport : ExportFault → List Export → Bool
+someExport fault es = someOf (exportFaulty fault) es
 
 -- what is asked of a manifest that has the stated shape
 abbrev pub onShape : {A : Type 0} → Manifest → (Layout → A) → A → A
@@ -85,8 +85,8 @@ unfoldable pub unsupportedAt : List ℕ → Layout → Bool
 unsupportedAt s l =
     anyOf
     (not (stringsAgree s (l .strings)) ∷
-    someFaulty Abi (exportsAt s (l .exports)) ∷
-    not (eqb (countAt s (l .capabilities)) 0) ∷
+    someExport Abi (exportsAt s (l .exports)) ∷
+    not (within capabilitiesSize (countAt s (l .capabilities))) ∷
     eqb (orZero (numberAt 1 s (l .closure))) 1 ∷
     [])
 
@@ -96,7 +96,7 @@ unsupported s = onShape (manifestOf s) (unsupportedAt s) false
 -- 14: an export name is empty, over 64 bytes, or used twice
 unfoldable pub misnamedAt : List ℕ → Layout → Bool
 misnamedAt s l =
-    anyOf (someFaulty NameSize (exportsAt s (l .exports)) ∷ someFaulty NameTwice (exportsAt s (l .exports)) ∷ [])
+    anyOf (someExport NameSize (exportsAt s (l .exports)) ∷ someExport NameTwice (exportsAt s (l .exports)) ∷ [])
 
 unfoldable pub misnamed : List ℕ → Bool
 misnamed s = onShape (manifestOf s) (misnamedAt s) false

@@ -4,19 +4,20 @@ ghost use Rattle.manifest.specs.Content.{rootPast, exportPast, textAt, h
 use manifest_shape::parts::Parsed;
 use manifest_shape::parts::bytes_end;
 use manifest_shape::parts::sized_end;
+use sizes::HASH;
 use wire::Num;
 
-// Behind the root at a position, by its lengths alone.
+// After the root at a position, by its lengths alone.
 pub fn root_past(s: &[u8], at: usize) -> Parsed
     ensures { λ r. ⌜ r ≡ rootPast (now (s .entry)) at ⌝ }
 {
-    match bytes_end(s, at, 32) {
+    match bytes_end(s, at, HASH) {
         Parsed::To(p) => sized_end(s, p),
         Parsed::Bad => Parsed::Bad,
     }
 }
 
-// Behind the export at a position, by its lengths alone.
+// After the export at a position, by its lengths alone.
 pub fn export_past(s: &[u8], at: usize) -> Parsed
     ensures { λ r. ⌜ r ≡ exportPast (now (s .entry)) at ⌝ }
 {
@@ -30,7 +31,7 @@ pub fn export_past(s: &[u8], at: usize) -> Parsed
 }
 
 // The text of the string that stands at a position.
-pub fn text_at(s: &[u8], p: Parsed) -> &[u8]
+pub(crate) fn text_at(s: &[u8], p: Parsed) -> &[u8]
     ensures { λ r. ⌜ now r ≡ textAt (now (s .entry)) p ⌝ }
 {
     match p {
@@ -42,12 +43,12 @@ pub fn text_at(s: &[u8], p: Parsed) -> &[u8]
     }
 }
 
-// The 32 bytes that stand at a position.
+// The bytes of a hash that stand at a position.
 pub fn hash_at(s: &[u8], p: Parsed) -> &[u8]
     ensures { λ r. ⌜ now r ≡ hashAt (now (s .entry)) p ⌝ }
 {
     match p {
-        Parsed::To(at) => wire::span(s, at, 32),
+        Parsed::To(at) => wire::span(s, at, HASH),
         Parsed::Bad => &s[..0],
     }
 }

@@ -1,21 +1,21 @@
 // The exports of a manifest: their faults, one by its name, and where one stands.
 ghost use mathlib.Core.Path.{_≡_};
 ghost use lib.ListN.{getD};
-ghost use Rattle.wire.specs.Wire.{indexOf, found};
+ghost use Rattle.lists.specs.Lists.{indexOf, found};
 ghost use Rattle.manifest_shape.specs.Shape.{andThen, sizedEnd};
 ghost use Rattle.manifest.specs.Content.{rootPast, textAt, exportAt, exportsFrom, exportsAt, placesFrom, placesAt, names};
-ghost use Rattle.manifest.specs.Judged.{faulty, someFaulty};
+ghost use Rattle.manifest.specs.Judged.{exportFaulty, someExport};
 use crate::content::export_past;
 use crate::content::root_past;
 use crate::content::text_at;
+use lists::Found;
 use manifest_shape::parts::Parsed;
 use manifest_shape::parts::sized_end;
 use sizes::Size;
-use wire::Found;
 use wire::Num;
 
 // What can be wrong with an export.
-pub enum Fault {
+pub enum ExportFault {
     Abi,
     NameSize,
     NameTwice,
@@ -40,7 +40,7 @@ fn find_from(s: &[u8], name: &[u8], n: u64, at: usize) -> Found
     while i < n {
         match export_past(s, p) {
             Parsed::To(q) => {
-                if wire::same_bytes(text_at(s, Parsed::To(p)), name) {
+                if lists::same_bytes(text_at(s, Parsed::To(p)), name) {
                     return Found::Index(i as usize);
                 }
                 p = q;
@@ -64,20 +64,20 @@ fn has(s: &[u8], name: &[u8], n: u64, at: usize) -> bool
     }
 }
 
-// Whether the export at p has the fault; n exports stand behind it, from q on.
-fn faulty(s: &[u8], fault: Fault, p: usize, n: u64, q: usize) -> bool
-    ensures { λ r. ⌜ r ≡ faulty fault (exportAt (now (s .entry)) p) (exportsFrom (now (s .entry)) n q) ⌝ }
+// Whether the export at p has the fault; n exports stand after it, from q on.
+fn export_faulty(s: &[u8], fault: ExportFault, p: usize, n: u64, q: usize) -> bool
+    ensures { λ r. ⌜ r ≡ exportFaulty fault (exportAt (now (s .entry)) p) (exportsFrom (now (s .entry)) n q) ⌝ }
 {
     match fault {
-        Fault::Abi => !wire::same_bytes(abi_at(s, p), b"arboricx.abi.tree.v1"),
-        Fault::NameSize => !Size::NAME.allows(text_at(s, Parsed::To(p)).len() as u64),
-        Fault::NameTwice => has(s, text_at(s, Parsed::To(p)), n, q),
+        ExportFault::Abi => !lists::same_bytes(abi_at(s, p), b"arboricx.abi.tree.v1"),
+        ExportFault::NameSize => !Size::NAME.allows(text_at(s, Parsed::To(p)).len() as u64),
+        ExportFault::NameTwice => has(s, text_at(s, Parsed::To(p)), n, q),
     }
 }
 
 // Whether one of the n exports from a position on has the fault.
-fn some_faulty_from(s: &[u8], fault: Fault, n: u64, at: usize) -> bool
-    ensures { λ r. ⌜ r ≡ someFaulty fault (exportsFrom (now (s .entry)) n at) ⌝ }
+fn some_export_from(s: &[u8], fault: ExportFault, n: u64, at: usize) -> bool
+    ensures { λ r. ⌜ r ≡ someExport fault (exportsFrom (now (s .entry)) n at) ⌝ }
 {
     let mut p = at;
     let mut left = n;
@@ -85,7 +85,7 @@ fn some_faulty_from(s: &[u8], fault: Fault, n: u64, at: usize) -> bool
         match export_past(s, p) {
             Parsed::To(q) => {
                 left -= 1;
-                if faulty(s, fault, p, left, q) {
+                if export_faulty(s, fault, p, left, q) {
                     return true;
                 }
                 p = q;
@@ -98,12 +98,12 @@ fn some_faulty_from(s: &[u8], fault: Fault, n: u64, at: usize) -> bool
     false
 }
 
-// Whether one of the exports behind their count at a position has the fault.
-pub fn some_faulty(s: &[u8], fault: Fault, at: usize) -> bool
-    ensures { λ r. ⌜ r ≡ someFaulty fault (exportsAt (now (s .entry)) at) ⌝ }
+// Whether one of the exports after their count at a position has the fault.
+pub(crate) fn some_export(s: &[u8], fault: ExportFault, at: usize) -> bool
+    ensures { λ r. ⌜ r ≡ someExport fault (exportsAt (now (s .entry)) at) ⌝ }
 {
     match wire::u32_at(s, at) {
-        Num::Value(n) => some_faulty_from(s, fault, n, at + 4),
+        Num::Value(n) => some_export_from(s, fault, n, at + 4),
         Num::Short => false,
     }
 }
@@ -141,7 +141,7 @@ fn place_from(s: &[u8], n: u64, at: usize, i: u64) -> Parsed
     Parsed::Bad
 }
 
-// Where the i-th of the exports behind their count at a position stands.
+// Where the i-th of the exports after their count at a position stands.
 pub fn place_at(s: &[u8], at: usize, i: u64) -> Parsed
     ensures { λ r. ⌜ r ≡ getD (placesAt (now (s .entry)) at) i Parsed.Bad ⌝ }
 {

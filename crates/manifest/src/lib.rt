@@ -1,18 +1,12 @@
-// What stands in a manifest: its strings, its exports; what is refused of it (13 and 14), and exports by index and by name.
+// What stands in a manifest: its strings, its exports; what is refused of it (13 and 14).
 ghost use mathlib.Core.Path.{_≡_};
-ghost use Rattle.manifest_shape.specs.Shape.{manifestOf};
-ghost use Rattle.manifest.specs.Judged.{unsupportedAt, misnamedAt, exportPlace, exportIndex};
+ghost use Rattle.manifest.specs.Judged.{unsupportedAt, misnamedAt};
 use crate::content::count_at;
-use crate::exports::Fault;
-use crate::exports::find;
-use crate::exports::place_at;
-use crate::exports::some_faulty;
+use crate::exports::ExportFault;
+use crate::exports::some_export;
 use crate::strings::strings_agree;
 use manifest_shape::Layout;
-use manifest_shape::Manifest;
-use manifest_shape::parts::Parsed;
-use manifest_shape::read;
-use wire::Found;
+use sizes::Size;
 
 pub mod content;
 pub mod exports;
@@ -29,10 +23,10 @@ pub fn unsupported(s: &[u8], l: Layout) -> bool
     if !strings_agree(s, strings) {
         return true;
     }
-    if some_faulty(s, Fault::Abi, exports) {
+    if some_export(s, ExportFault::Abi, exports) {
         return true;
     }
-    if count_at(s, capabilities) != 0 {
+    if !Size::CAPABILITIES.allows(count_at(s, capabilities)) {
         return true;
     }
     wire::u8_at(s, closure).or_zero() == 1
@@ -43,34 +37,8 @@ pub fn misnamed(s: &[u8], l: Layout) -> bool
     ensures { λ r. ⌜ r ≡ misnamedAt (now (s .entry)) l ⌝ }
 {
     let exports = l.exports;
-    if some_faulty(s, Fault::NameSize, exports) {
+    if some_export(s, ExportFault::NameSize, exports) {
         return true;
     }
-    some_faulty(s, Fault::NameTwice, exports)
-}
-
-// Where the export with an index stands; its name stands first in it.
-pub fn export_place(s: &[u8], i: u64) -> Parsed
-    ensures { λ r. ⌜ r ≡ exportPlace (now (s .entry)) i ⌝ }
-{
-    match read(s) {
-        Manifest::Shape(l) => {
-            let exports = l.exports;
-            place_at(s, exports, i)
-        }
-        Manifest::Malformed => Parsed::Bad,
-    }
-}
-
-// The index of the export with a name.
-pub fn export_index(s: &[u8], name: &[u8]) -> Found
-    ensures { λ r. ⌜ r ≡ exportIndex (now (s .entry)) (now (name .entry)) ⌝ }
-{
-    match read(s) {
-        Manifest::Shape(l) => {
-            let exports = l.exports;
-            find(s, name, exports)
-        }
-        Manifest::Malformed => Found::Nothing,
-    }
+    some_export(s, ExportFault::NameTwice, exports)
 }

@@ -6,7 +6,7 @@ use crate::content::text_at;
 use manifest_shape::parts::Parsed;
 use manifest_shape::parts::sized_end;
 
-// Behind some strings, and whether all of them were as wanted.
+// After some strings, and whether all of them were as wanted.
 pub struct Walk {
     pub at: Parsed,
     pub same: bool,
@@ -28,7 +28,7 @@ fn past(s: &[u8], walk: Walk, t: &[u8]) -> Walk
     let at = walk.at;
     let next = string_past(s, at);
     if walk.same {
-        let same = wire::same_bytes(text_at(s, at), t);
+        let same = lists::same_bytes(text_at(s, at), t);
         return Walk { at: next, same };
     }
     Walk {
@@ -50,7 +50,7 @@ fn past_any(s: &[u8], walk: Walk) -> Walk
 }
 
 // Whether the strings from a position on are the nine.
-pub fn strings_agree(s: &[u8], at: usize) -> bool
+pub(crate) fn strings_agree(s: &[u8], at: usize) -> bool
     ensures { λ r. ⌜ r ≡ stringsAgree (now (s .entry)) at ⌝ }
 {
     let start = Walk {

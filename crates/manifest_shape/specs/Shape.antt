@@ -1,4 +1,4 @@
--- The manifest's shape. Each definition takes the bytes of the section and a position, and gives the position behind what stands
+-- The manifest's shape. Each definition takes the bytes of the section and a position, and gives the position after what stands
 -- there, or Bad where it does not have the stated shape.
 use Prim.Native.Nat.{ℕ, zero, suc, _+_}
 use mathlib.Core.List.{List}
@@ -9,7 +9,7 @@ use Rattle.wire.specs.Wire.{numberAt, spanEnd, span, holdsAt, onPos, onNumber, 
 use Rattle.utf8.specs.Check.{check}
 use Rattle.utf8.specs.declared.Utf8.{Utf8}
 use Rattle.utf8.specs.declared.Utf8.the-variants.{Valid, BadAt}
-use Rattle.sizes.specs.Sizes.{within, capabilitiesSize, rootsSize, exportsSize, fieldsSize}
+use Rattle.sizes.specs.Sizes.{within, anyCount, rootsSize, exportsSize, fieldsSize, hashBytes}
 use Rattle.sizes.specs.declared.Size.{Size}
 use Rattle.manifest_shape.specs.declared.parts.Parsed.{Parsed}
 use Rattle.manifest_shape.specs.declared.parts.Parsed.the-variants.{To, Bad}
@@ -30,7 +30,7 @@ andThen p f = onParsed p f Bad
 
 abbrev pub ifValid : Utf8 → Parsed → Parsed
 ifValid Valid p = p
-ifValid (BadAt place) p = Bad
+ifValid (BadAt placeOf) p = Bad
 
 -- n bytes
 unfoldable pub bytesEnd : List ℕ → ℕ → ℕ → Parsed
@@ -46,7 +46,7 @@ stringEnd s at = onNumber (numberAt 4 s at) (λ n. textEnd s (at + 4) n) Bad
 
 -- a root: 32 raw hash bytes and a role string
 unfoldable pub rootEnd : List ℕ → ℕ → Parsed
-rootEnd s at = andThen (bytesEnd s at 32) (λ p. stringEnd s p)
+rootEnd s at = andThen (bytesEnd s at hashBytes) (λ p. stringEnd s p)
 
 -- an export: a name string, 32 raw hash bytes, a kind string, an abi string
 unfoldable pub exportEnd : List ℕ → ℕ → Parsed
@@ -87,9 +87,9 @@ headEnd s =
     (onNumber (numberAt 2 s 8) (λ major. cond (eqb major 1) (bytesEnd s 10 2) Bad) Bad)
     Bad
 
-abbrev pub place : Parsed → ℕ
-place (To p) = p
-place Bad = 0
+abbrev pub placeOf : Parsed → ℕ
+placeOf (To p) = p
+placeOf Bad = 0
 
 -- then the end, no byte left over
 unfoldable pub ending : List ℕ → Parsed → Layout → Manifest
@@ -101,16 +101,16 @@ unfoldable pub manifestOf : List ℕ → Manifest
 manifestOf s =
     let strings : Parsed = headEnd s in
     let capabilities : Parsed = andThen strings (itemsEnd s Text 9) in
-    let closure : Parsed = andThen capabilities (countedEnd s Text capabilitiesSize) in
+    let closure : Parsed = andThen capabilities (countedEnd s Text anyCount) in
     let roots : Parsed = andThen closure (closureEnd s) in
     let exports : Parsed = andThen roots (countedEnd s Root rootsSize) in
     let metadata : Parsed = andThen exports (countedEnd s Export exportsSize) in
     let extensions : Parsed = andThen metadata (countedEnd s Field fieldsSize) in
     let end : Parsed = andThen extensions (countedEnd s Field fieldsSize) in
     ending s end (record {
-      strings = place strings;
-      capabilities = place capabilities;
-      closure = place closure;
-      roots = place roots;
-      exports = place exports;
+      strings = placeOf strings;
+      capabilities = placeOf capabilities;
+      closure = placeOf closure;
+      roots = placeOf roots;
+      exports = placeOf exports;
     })

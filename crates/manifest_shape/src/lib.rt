@@ -1,6 +1,6 @@
 // The shape of a manifest (12), and where its parts start.
 ghost use mathlib.Core.Path.{_≡_};
-ghost use Rattle.manifest_shape.specs.Shape.{andThen, itemsEnd, countedEnd, closureEnd, headEnd, place, ending, manifestOf};
+ghost use Rattle.manifest_shape.specs.Shape.{andThen, itemsEnd, countedEnd, closureEnd, headEnd, placeOf, ending, manifestOf};
 
 pub mod parts;
 
@@ -76,8 +76,8 @@ fn then_closure(s: &[u8], p: Parsed) -> Parsed
     }
 }
 
-fn place(p: Parsed) -> usize
-    ensures { λ r. ⌜ r ≡ place p ⌝ }
+fn place_of(p: Parsed) -> usize
+    ensures { λ r. ⌜ r ≡ placeOf p ⌝ }
 {
     match p {
         Parsed::To(at) => at,
@@ -107,18 +107,18 @@ pub fn read(s: &[u8]) -> Manifest
 {
     let strings = head_end(s);
     let capabilities = then_strings(s, strings);
-    let closure = then_counted(s, capabilities, Kind::Text, Size::CAPABILITIES);
+    let closure = then_counted(s, capabilities, Kind::Text, Size::ANY_COUNT);
     let roots = then_closure(s, closure);
     let exports = then_counted(s, roots, Kind::Root, Size::ROOTS);
     let metadata = then_counted(s, exports, Kind::Export, Size::EXPORTS);
     let extensions = then_counted(s, metadata, Kind::Field, Size::FIELDS);
     let end = then_counted(s, extensions, Kind::Field, Size::FIELDS);
     let l = Layout {
-        strings: place(strings),
-        capabilities: place(capabilities),
-        closure: place(closure),
-        roots: place(roots),
-        exports: place(exports),
+        strings: place_of(strings),
+        capabilities: place_of(capabilities),
+        closure: place_of(closure),
+        roots: place_of(roots),
+        exports: place_of(exports),
     };
     finish(s, end, l)
 }

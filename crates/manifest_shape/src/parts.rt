@@ -1,18 +1,19 @@
 // The parts that a manifest is made of: where each ends, if it has the stated shape.
 ghost use mathlib.Core.Path.{_≡_};
 ghost use Rattle.manifest_shape.specs.Shape.{bytesEnd, textEnd, stringEnd, rootEnd, exportEnd, sizedEnd, fieldEnd, itemEnd, itemsEnd, countedEnd, closureEnd};
+use sizes::HASH;
 use sizes::Size;
 use utf8::Utf8;
 use wire::Num;
 use wire::Pos;
 
-// The position behind what was read, or that it does not have the stated shape.
+// The position after what was read, or that it does not have the stated shape.
 pub enum Parsed {
     To(usize),
     Bad,
 }
 
-// What stands behind a count.
+// What stands after a count.
 pub enum Kind {
     Text,
     Root,
@@ -57,7 +58,7 @@ fn string_end(s: &[u8], at: usize) -> Parsed
 fn root_end(s: &[u8], at: usize) -> Parsed
     ensures { λ r. ⌜ r ≡ rootEnd (now (s .entry)) at ⌝ }
 {
-    match bytes_end(s, at, 32) {
+    match bytes_end(s, at, HASH) {
         Parsed::To(p) => string_end(s, p),
         Parsed::Bad => Parsed::Bad,
     }
@@ -108,7 +109,7 @@ fn item_end(s: &[u8], kind: Kind, at: usize) -> Parsed
 }
 
 // n items, one after the other.
-pub fn items_end(s: &[u8], kind: Kind, n: u64, at: usize) -> Parsed
+pub(crate) fn items_end(s: &[u8], kind: Kind, n: u64, at: usize) -> Parsed
     ensures { λ r. ⌜ r ≡ itemsEnd (now (s .entry)) kind n at ⌝ }
 {
     let mut p = at;
@@ -128,7 +129,7 @@ pub fn items_end(s: &[u8], kind: Kind, n: u64, at: usize) -> Parsed
 }
 
 // A u32 count within its size, and as many items.
-pub fn counted_end(s: &[u8], kind: Kind, size: Size, at: usize) -> Parsed
+pub(crate) fn counted_end(s: &[u8], kind: Kind, size: Size, at: usize) -> Parsed
     ensures { λ r. ⌜ r ≡ countedEnd (now (s .entry)) kind size at ⌝ }
 {
     match wire::u32_at(s, at) {
@@ -144,7 +145,7 @@ pub fn counted_end(s: &[u8], kind: Kind, size: Size, at: usize) -> Parsed
 }
 
 // One closure byte, 0 complete, 1 partial.
-pub fn closure_end(s: &[u8], at: usize) -> Parsed
+pub(crate) fn closure_end(s: &[u8], at: usize) -> Parsed
     ensures { λ r. ⌜ r ≡ closureEnd (now (s .entry)) at ⌝ }
 {
     match wire::u8_at(s, at) {

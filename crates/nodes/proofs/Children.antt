@@ -7,48 +7,49 @@ use mathlib.Core.List.{List, [], _∷_}
 use native.Mathlib.Omega.{arith}
 use lib.ListN.{length, getD}
 use lib.Dec.{eqb}
-use Rattle.wire.specs.Wire.{span, indexOf}
-use Rattle.wire.specs.Relations.{Among, here, there, Distinct}
-use Rattle.wire.specs.declared.Found.{Found}
-use Rattle.wire.specs.declared.Found.the-variants.{Index, Nothing}
-use Rattle.wire.proofs.Index.{among-index, index-among, distinct-index, index-is, index-none}
+use Rattle.wire.specs.Wire.{span}
+use Rattle.lists.specs.Lists.{indexOf}
+use Rattle.lists.specs.Among.{Among, here, there, Distinct}
+use Rattle.lists.specs.declared.Found.{Found}
+use Rattle.lists.specs.declared.Found.the-variants.{Index, Nothing}
+use Rattle.lists.proofs.Index.{among-index, index-among, distinct-index, index-is, index-none}
 use Rattle.sizes.specs.Sizes.{nodesSize}
 use Rattle.placing.specs.Placing.{Links}
-use Rattle.placing.specs.Circles.{Child, first, second}
-use Rattle.nodes.specs.Records.{Node, children, childrenOf, hashes}
+use Rattle.placing.specs.Circles.{ChildLink, first, second}
+use Rattle.nodes.specs.Records.{NodeRecord, children, childrenOf, hashes}
 use Rattle.nodes.specs.Links.{linkTo, linkOf, firstLink, secondLink, links, linksOf}
-use Rattle.nodes.specs.Starts.{nodeAt}
+use Rattle.nodes.specs.Starts.{nthRecord}
 
 -- record i
-abbrev pub at : List Node → ℕ → Node
-at rs i = nodeAt rs i
+abbrev pub at : List NodeRecord → ℕ → NodeRecord
+at rs i = nthRecord rs i
 
-abbrev pub hashAt : List Node → ℕ → List ℕ
+abbrev pub hashAt : List NodeRecord → ℕ → List ℕ
 hashAt rs i = at rs i .hash
 
-abbrev pub childrenAt : List Node → ℕ → List (List ℕ)
+abbrev pub childrenAt : List NodeRecord → ℕ → List (List ℕ)
 childrenAt rs i = children (at rs i)
 
-pub hashes-length : (rs : List Node) → length (hashes rs) ≡ length rs
+pub hashes-length : (rs : List NodeRecord) → length (hashes rs) ≡ length rs
 unfolding hashes
 hashes-length [] = refl
 hashes-length (r ∷ rs) = ap suc (hashes-length rs)
 
-pub hashes-at : (rs : List Node) (i : ℕ) → getD (hashes rs) i [] ≡ hashAt rs i
+pub hashes-at : (rs : List NodeRecord) (i : ℕ) → getD (hashes rs) i [] ≡ hashAt rs i
 unfolding hashes
 hashes-at [] i = refl
 hashes-at (r ∷ rs) zero = refl
 hashes-at (r ∷ rs) (suc i) = hashes-at rs i
 
 -- a record and its number
-pub number-of : {rs : List Node} {r : Node} → Among r rs → (i : ℕ) × (i < length rs) × (at rs i ≡ r)
+pub number-of : {rs : List NodeRecord} {r : NodeRecord} → Among r rs → (i : ℕ) × (i < length rs) × (at rs i ≡ r)
 number-of = among-index (record { hash = []; payload = [] })
 
-pub record-at : (rs : List Node) (i : ℕ) → i < length rs → Among (at rs i) rs
+pub record-at : (rs : List NodeRecord) (i : ℕ) → i < length rs → Among (at rs i) rs
 record-at = index-among (record { hash = []; payload = [] })
 
 -- a hash's link is no more than the number of records, and says which record has it
-module _ (rs : List Node) (h : List ℕ) where
+module _ (rs : List NodeRecord) (h : List ℕ) where
   pub link-small : linkOf rs h ≤ length rs
   unfolding linkOf
   link-small = told (indexOf h 0 (hashes rs)) refl
@@ -78,20 +79,20 @@ module _ (rs : List Node) (h : List ℕ) where
       told Nothing q = absurd (index-none h 0 (hashes rs) q a)
 
 -- the links of record i
-module _ (all : List Node) where
-  pub links-length : (rs : List Node) → length (links all rs) ≡ 2 * length rs
+module _ (all : List NodeRecord) where
+  pub links-length : (rs : List NodeRecord) → length (links all rs) ≡ 2 * length rs
   unfolding links
   links-length [] = refl
   links-length (r ∷ rs) = omega (arith, links-length rs)
 
-  pub links-first : (rs : List Node) (i : ℕ) → i < length rs → getD (links all rs) (2 * i) 0 ≡ firstLink all (childrenAt rs i)
+  pub links-first : (rs : List NodeRecord) (i : ℕ) → i < length rs → getD (links all rs) (2 * i) 0 ≡ firstLink all (childrenAt rs i)
   unfolding links
   links-first [] i l = absurd (omega arith)
   links-first (r ∷ rs) zero l = refl
   links-first (r ∷ rs) (suc i) l =
       let e : 2 * suc i ≡ suc (suc (2 * i)) = omega arith in rw e (links-first rs i (omega arith))
 
-  pub links-second : (rs : List Node) (i : ℕ) → i < length rs →
+  pub links-second : (rs : List NodeRecord) (i : ℕ) → i < length rs →
       getD (links all rs) (2 * i + 1) 0 ≡ secondLink all (childrenAt rs i)
   unfolding links
   links-second [] i l = absurd (omega arith)
@@ -110,14 +111,14 @@ module _ (all : List Node) where
   second-small (c ∷ []) = omega arith
   second-small (c ∷ d ∷ cs) = link-small all d
 
-  links-small : (rs : List Node) (k : ℕ) → getD (links all rs) k 0 ≤ length all
+  links-small : (rs : List NodeRecord) (k : ℕ) → getD (links all rs) k 0 ≤ length all
   unfolding links
   links-small [] k = omega arith
   links-small (r ∷ rs) zero = first-small (children r)
   links-small (r ∷ rs) (suc zero) = second-small (children r)
   links-small (r ∷ rs) (suc (suc k)) = links-small rs k
 
-pub links-ok : (rs : List Node) → length rs ≤ nodesSize .most → Links (linksOf rs) (length rs) (nodesSize .most)
+pub links-ok : (rs : List NodeRecord) → length rs ≤ nodesSize .most → Links (linksOf rs) (length rs) (nodesSize .most)
 links-ok rs h =
     record { long = omega (arith, links-length rs rs); small = λ k l. links-small rs rs k; fits = h; few = omega arith }
 
@@ -137,7 +138,7 @@ kids-view p = go (eqb (length p) 33) (eqb (length p) 65)
     go false false = none
 
 -- a link of record i names a child's record
-module _ (rs : List Node) where
+module _ (rs : List NodeRecord) where
   first-child : (cs : List (List ℕ)) (j : ℕ) → firstLink rs cs ≡ j + 1 → (j < length rs) × Among (hashAt rs j) cs
   unfolding firstLink
   first-child [] j e = absurd (omega arith)
@@ -149,7 +150,7 @@ module _ (rs : List Node) where
   second-child (c ∷ []) j e = absurd (omega arith)
   second-child (c ∷ d ∷ cs) j e = let (l, q) = link-hash rs d j e in (l, rw q (there here))
 
-  pub link-child : (i j : ℕ) → i < length rs → Child (linksOf rs) i j →
+  pub link-child : (i j : ℕ) → i < length rs → ChildLink (linksOf rs) i j →
       (j < length rs) × Among (hashAt rs j) (childrenAt rs i)
   link-child i j l (first e) = first-child (childrenAt rs i) j (sym (links-first rs rs i l) ∙ e)
   link-child i j l (second e) = second-child (childrenAt rs i) j (sym (links-second rs rs i l) ∙ e)
@@ -163,7 +164,7 @@ module _ (rs : List Node) where
   among-link two (there here) = inr refl
 
   pub child-link : (i : ℕ) → i < length rs → {h : List ℕ} → Among h (childrenAt rs i) → Among h (hashes rs) →
-      (j : ℕ) × (j < length rs) × (hashAt rs j ≡ h) × Child (linksOf rs) i j
+      (j : ℕ) × (j < length rs) × (hashAt rs j ≡ h) × ChildLink (linksOf rs) i j
   child-link i l {h} a b =
       let (j, m, e, q) = hash-link rs h b in (
         j,
@@ -174,13 +175,13 @@ module _ (rs : List Node) where
       )
 
 -- where no two records have one hash
-module _ (rs : List Node) (apart : Distinct (hashes rs)) where
+module _ (rs : List NodeRecord) (apart : Distinct (hashes rs)) where
   pub one-number : (i j : ℕ) → i < length rs → j < length rs → hashAt rs i ≡ hashAt rs j → i ≡ j
   one-number i j l m e =
       let q : length (hashes rs) ≡ length rs = hashes-length rs in
       distinct-index [] apart i j (omega arith) (omega arith) (hashes-at rs i ∙ e ∙ sym (hashes-at rs j))
 
-  pub one-record : {r q : Node} → Among r rs → Among q rs → r .hash ≡ q .hash → r ≡ q
+  pub one-record : {r q : NodeRecord} → Among r rs → Among q rs → r .hash ≡ q .hash → r ≡ q
   one-record {r} {q} a b e =
       let (i, l, f) = number-of a in
       let (j, m, g) = number-of b in

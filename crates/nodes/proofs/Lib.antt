@@ -9,3 +9,4 @@ pub mod StartTable
 pub mod Searches
 pub mod SomeFault
 pub mod StartsFilling
+pub mod FaultTests

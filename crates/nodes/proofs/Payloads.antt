@@ -8,7 +8,7 @@ use borrow.Author.Tests.{eq-eqb, ne-eqb}
 use lib.Dec.{eqb}
 use lib.ListN.{length}
 use Rattle.wire.specs.Wire.{span}
-use Rattle.nodes.specs.Records.{Node, childrenOf}
+use Rattle.nodes.specs.Records.{NodeRecord, childrenOf}
 use Rattle.nodes.specs.Links.{secondLink}
 
 -- a and b stand for the spans that were read
@@ -26,7 +26,7 @@ module _ (p : List ℕ) where
   unfolding childrenOf
   children-none n m = rw (ne-eqb (length p) 33 n, ne-eqb (length p) 65 m)
 
-  pub no-second : (all : List Node) → (length p ≡ 65 → ⊥) → 0 ≡ secondLink all (childrenOf p)
+  pub no-second : (all : List NodeRecord) → (length p ≡ 65 → ⊥) → 0 ≡ secondLink all (childrenOf p)
   unfolding childrenOf secondLink
   no-second all m = rw (ne-eqb (length p) 65 m) (test (eqb (length p) 33))
     where

@@ -13,12 +13,12 @@ use Rattle.wire.specs.declared.Num.{Num}
 use Rattle.wire.specs.declared.Num.the-variants.{Value, Short}
 use Rattle.wire.specs.declared.Pos.{Pos}
 use Rattle.wire.specs.declared.Pos.the-variants.{At, Past}
-use Rattle.wire.proofs.Bytes.{not-both}
+use Rattle.lists.proofs.Same.{not-both}
 use Rattle.sizes.specs.Sizes.{within, nodesSize}
 use Rattle.sizes.proofs.Within.{within-exactly}
 use Rattle.placing.specs.Placing.{Placed, Links, placing, placed}
 use Rattle.nodes.specs.Records.{recordsEnd, records, count, nodesOf, endsAt, shaped}
-use Rattle.nodes.specs.Links.{linksOf, placedOf, circular, Sized, Placing}
+use Rattle.nodes.specs.Links.{linksOf, placedOf, circular, Sized, PlacedTables}
 use Rattle.nodes.proofs.Children.{links-length, links-ok}
 use Rattle.nodes.proofs.Walks.{records-all}
 
@@ -37,6 +37,20 @@ shaped-sized s e h = rw e (counted (numberAt 8 s 0) h)
         onNumber x (λ n. cond (within nodesSize n) (endsAt (recordsEnd s n 8) (length s)) false) false ≡ true →
         Sized s (orZero x)
     counted (Value n) h = sized n (within nodesSize n) refl (recordsEnd s n 8) refl h
+    counted Short h = not-both h refl
+
+-- and it has one at least
+pub shaped-some : (s : List ℕ) → shaped s ≡ true → 1 ≤ length (nodesOf s)
+unfolding count shaped nodesOf
+shaped-some s h = rw (shaped-sized s refl h .all) (counted (numberAt 8 s 0) h)
+  where
+    some : (n : ℕ) (b : Bool) → within nodesSize n ≡ b → (rest : Bool) → cond b rest false ≡ true → 1 ≤ n
+    some n true w rest h = within-exactly nodesSize n .0 w .0
+    some n false w rest h = not-both h refl
+
+    counted : (x : Num) →
+        onNumber x (λ n. cond (within nodesSize n) (endsAt (recordsEnd s n 8) (length s)) false) false ≡ true → 1 ≤ orZero x
+    counted (Value n) h = some n (within nodesSize n) refl _ h
     counted Short h = not-both h refl
 
 module _ (s : List ℕ) (n : ℕ) (size : Sized s n) where
@@ -78,7 +92,7 @@ module _ (s : List ℕ) (n : ℕ) (size : Sized s n) where
   -- the tables that are left
   pub placing-left : n ≡ count s → (links old : List ℕ) → links ≡ linksOf (records s n 8) ++ old →
       {slots : List ℕ} {r : ℕ} → record { slots = slots; count = r } ≡ placedOf (records s n 8) →
-      Placing (nodesOf s) links slots
+      PlacedTables (nodesOf s) links slots
   unfolding nodesOf
   placing-left e links old g h =
       rw (← e)

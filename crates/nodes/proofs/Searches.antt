@@ -6,10 +6,11 @@ use mathlib.Core.Bool.{Bool, true, false}
 use native.Mathlib.Omega.{arith}
 use lib.ListN.{length, drop, getD, drop-of-length-le}
 use lib.Seq.{getD-take, getD-drop, ext-getD}
-use Rattle.wire.specs.Wire.{span, sameBytes, indexOf, found}
-use Rattle.wire.specs.declared.Found.the-variants.{Index, Nothing}
+use Rattle.wire.specs.Wire.{span}
+use Rattle.lists.specs.Lists.{sameBytes, indexOf, found}
+use Rattle.lists.specs.declared.Found.the-variants.{Index, Nothing}
 use Rattle.wire.proofs.Spans.{span-in, span-length}
-use Rattle.wire.proofs.Bytes.{same-true, same-differ}
+use Rattle.lists.proofs.Same.{same-true, same-differ}
 use Rattle.nodes.specs.Records.{records, hashes}
 use Rattle.nodes.specs.Starts.{Starts}
 use Rattle.nodes.proofs.StartTable.{node-first, start-hash}

@@ -6,14 +6,14 @@ use mathlib.Core.List.{List}
 use native.Mathlib.Omega.{arith}
 use lib.ListN.{length, getD}
 use Rattle.sizes.specs.Sizes.{nodesSize}
-use Rattle.placing.specs.Circles.{Child}
+use Rattle.placing.specs.Circles.{ChildLink}
 use Rattle.placing.proofs.Steps.{placed-most}
 use Rattle.placing.proofs.Laid.{Laid, child-in, placed-laid, placed-all}
-use Rattle.nodes.specs.Records.{Node}
+use Rattle.nodes.specs.Records.{NodeRecord}
 use Rattle.nodes.specs.Links.{linksOf, placedOf}
 use Rattle.nodes.proofs.Children.{links-ok}
 
-module _ (rs : List Node) (few : length rs ≤ nodesSize .most) where
+module _ (rs : List NodeRecord) (few : length rs ≤ nodesSize .most) where
   abbrev S : List ℕ
   S = placedOf rs .slots
 
@@ -39,7 +39,7 @@ module _ (rs : List Node) (few : length rs ≤ nodesSize .most) where
     pub slot-onto : (k : ℕ) → k < length rs → (i : ℕ) × (i < length rs) × (getD S i 0 ≡ k + 1)
     slot-onto k l = slots-laid .onto k (omega (arith, slots-count))
 
-    pub slot-lower : (i j : ℕ) → i < length rs → Child (linksOf rs) i j → (j < length rs) × (getD S j 0 < getD S i 0)
+    pub slot-lower : (i j : ℕ) → i < length rs → ChildLink (linksOf rs) i j → (j < length rs) × (getD S j 0 < getD S i 0)
     slot-lower i j l c = (
       child-in (linksOf rs) (length rs) (links-ok rs few .small) i j l c,
       slots-laid .ranks i j l c (slot-some i l) .1,

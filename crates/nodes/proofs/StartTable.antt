@@ -1,4 +1,4 @@
--- Laws of where records start: the table says it of each record of a section, and the records behind it follow.
+-- Laws of where records start: the table says it of each record of a section, and the records after it follow.
 use Prim.Native.Nat.{ℕ, zero, suc, _+_, _-_, _≤_, _<_}
 use mathlib.Core.Path.{_≡_, refl, sym, ap, _∙_}
 use mathlib.Core.Bool.{true}
@@ -11,8 +11,8 @@ use lib.Seq.{drop-cons, getD-take, take-at}
 use Rattle.wire.specs.Wire.{span, onPos}
 use Rattle.wire.specs.declared.Pos.{Pos}
 use Rattle.wire.specs.declared.Pos.the-variants.{At, Past}
-use Rattle.nodes.specs.Records.{Node, recordEnd, recordAt, records, count, shaped}
-use Rattle.nodes.specs.Starts.{starts, Starts, nodeAt}
+use Rattle.nodes.specs.Records.{NodeRecord, recordEnd, recordAt, records, count, shaped}
+use Rattle.nodes.specs.Starts.{starts, Starts, nthRecord}
 use Rattle.nodes.proofs.Walks.{record-in, records-on, records-past}
 use Rattle.nodes.proofs.Placing.{shaped-sized}
 
@@ -93,7 +93,7 @@ module _ {s : List ℕ} {n : ℕ} {table : List ℕ} (t : Starts s n table) wher
         starts-at s n 8 k (omega (arith, t .sized .all)) ∙ ap (λ (p : ℕ). records s (n - k) p) (sym word-is)
 
     -- it is the first from there on
-    pub node-first : drop k (records s n 8) ≡ nodeAt (records s n 8) k ∷ drop (k + 1) (records s n 8)
+    pub node-first : drop k (records s n 8) ≡ nthRecord (records s n 8) k ∷ drop (k + 1) (records s n 8)
     node-first =
         rw add-one (drop-cons (records s n 8) k (record { hash = []; payload = [] }) (omega (arith, t .sized .all)))
 
@@ -104,7 +104,7 @@ module _ {s : List ℕ} {n : ℕ} {table : List ℕ} (t : Starts s n table) wher
           let z = sym node-first ∙ from-start ∙ records-past s (n - k) (getD table k 0) (omega arith) e f in
           absurd (omega (arith, ap length z))
 
-      pub start-node : {q : ℕ} → x ≡ At q → nodeAt (records s n 8) k ≡ recordAt s (getD table k 0) q
+      pub start-node : {q : ℕ} → x ≡ At q → nthRecord (records s n 8) k ≡ recordAt s (getD table k 0) q
       start-node f =
           let z = sym node-first ∙ from-start ∙ records-on s (n - k) (getD table k 0) (omega arith) e f in cc
 
@@ -116,10 +116,10 @@ module _ {s : List ℕ} {n : ℕ} {table : List ℕ} (t : Starts s n table) wher
         ended (At q) e = omega (arith, record-in s (getD table k 0) e refl)
         ended Past e = start-past e refl
 
-    pub start-hash : nodeAt (records s n 8) k .hash ≡ span s (getD table k 0) 32
+    pub start-hash : nthRecord (records s n 8) k .hash ≡ span s (getD table k 0) 32
     start-hash = ended (recordEnd s (getD table k 0)) refl
       where
         ended : (x : Pos) → x ≡ recordEnd s (getD table k 0) →
-            nodeAt (records s n 8) k .hash ≡ span s (getD table k 0) 32
-        ended (At q) e = ap (λ (r : Node). r .hash) (start-node e refl)
+            nthRecord (records s n 8) k .hash ≡ span s (getD table k 0) 32
+        ended (At q) e = ap (λ (r : NodeRecord). r .hash) (start-node e refl)
         ended Past e = start-past e refl

@@ -7,10 +7,11 @@ use native.Mathlib.Omega.{arith}
 use borrow.Author.Tests.{leb-true, eqb-true}
 use lib.Dec.{leb, eqb}
 use lib.ListN.{length}
-use Rattle.wire.specs.Wire.{numberAt, spanEnd, span, sameBytes, onPos, indexOf}
+use Rattle.wire.specs.Wire.{numberAt, spanEnd, span, onPos}
+use Rattle.lists.specs.Lists.{sameBytes, indexOf}
 use Rattle.wire.specs.declared.Pos.{Pos}
 use Rattle.wire.specs.declared.Pos.the-variants.{At, Past}
-use Rattle.wire.specs.declared.Found.the-variants.{Index, Nothing}
+use Rattle.lists.specs.declared.Found.the-variants.{Index, Nothing}
 use Rattle.wire.proofs.Spans.{end-at}
 use Rattle.nodes.specs.Records.{payloadEnd, recordEnd, recordsEnd, records, recordAt, hashes}
 use Rattle.nodes.proofs.Ends.{of-test, of-number, of-pos}

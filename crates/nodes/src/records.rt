@@ -2,9 +2,16 @@
 ghost use mathlib.Core.Path.{_≡_};
 ghost use Rattle.nodes.specs.Records.{payloadEnd, recordEnd, recordsEnd, count, shaped, nodeHash, domainState};
 use sha256::Running;
+use sizes::HASH;
 use sizes::Size;
 use wire::Num;
 use wire::Pos;
+
+// Where the first record starts: after the count.
+pub(crate) const FIRST_RECORD: usize = 8;
+
+// Bytes of a record before its payload: the hash and the payload's length.
+pub(crate) const RECORD_HEAD: usize = HASH + 4;
 
 // Where the payload of n bytes at a position ends, if it has the stated shape.
 fn payload_end(s: &[u8], at: usize, n: u64) -> Pos
@@ -13,7 +20,7 @@ fn payload_end(s: &[u8], at: usize, n: u64) -> Pos
     match wire::u8_at(s, at) {
         Num::Value(tag) => {
             if tag <= 2 {
-                if n == 32 * tag + 1 {
+                if n == HASH as u64 * tag + 1 {
                     return wire::span_end(s, at, n as usize);
                 }
             }
@@ -24,10 +31,10 @@ fn payload_end(s: &[u8], at: usize, n: u64) -> Pos
 }
 
 // Where the record at a position ends, if it has the stated shape.
-pub fn record_end(s: &[u8], at: usize) -> Pos
+pub(crate) fn record_end(s: &[u8], at: usize) -> Pos
     ensures { λ r. ⌜ r ≡ recordEnd (now (s .entry)) at ⌝ }
 {
-    match wire::span_end(s, at, 32) {
+    match wire::span_end(s, at, HASH) {
         Pos::At(p) => match wire::u32_at(s, p) {
             Num::Value(n) => payload_end(s, p + 4, n),
             Num::Short => Pos::Past,
@@ -70,7 +77,7 @@ pub fn shaped(s: &[u8]) -> bool
     match wire::u64_at(s, 0) {
         Num::Value(n) => {
             if Size::NODES.allows(n) {
-                match records_end(s, n, 8) {
+                match records_end(s, n, FIRST_RECORD) {
                     Pos::At(end) => end == s.len(),
                     Pos::Past => false,
                 }
@@ -92,7 +99,7 @@ pub(crate) fn domain() -> Running
 }
 
 // SHA-256 of the domain, a zero byte and the payload.
-pub(crate) fn node_hash(domain: Running, payload: &[u8]) -> [u8; 32]
+pub(crate) fn node_hash(domain: Running, payload: &[u8]) -> [u8; HASH]
     requires { ⌜ domain ≡ domainState ⌝ }
     ensures { λ r. ⌜ r ≡ nodeHash (now (payload .entry)) ⌝ }
 {

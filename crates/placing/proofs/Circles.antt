@@ -6,16 +6,16 @@ use mathlib.Core.Logic.{⊎-elim}
 use native.Mathlib.Omega.{arith}
 use native.Mathlib.Decide.{decLt}
 use lib.ListN.{getD}
-use Rattle.wire.specs.declared.Found.the-variants.{Nothing}
+use Rattle.lists.specs.declared.Found.the-variants.{Nothing}
 use Rattle.placing.specs.Placing.{earliest, Placed, unplaced, placed}
-use Rattle.placing.specs.Circles.{Child, first, second, Descends, child, deeper, Circle, ShortExactlyOnCircles}
+use Rattle.placing.specs.Circles.{ChildLink, first, second, Descends, child, deeper, LinkCircle, ShortExactlyOnCircles}
 use Rattle.placing.proofs.Views.{settled-not, ready-not, earliest-none}
 use Rattle.placing.proofs.Steps.{placing-ends}
 use Rattle.placing.proofs.Tally.{tally-gap, tally-all}
 use Rattle.placing.proofs.Laid.{Laid, child-in, placed-laid}
 use Rattle.placing.proofs.Pigeon.{pigeon}
 
-further : {L : List ℕ} {i j k : ℕ} → Descends L i j → Child L j k → Descends L i k
+further : {L : List ℕ} {i j k : ℕ} → Descends L i j → ChildLink L j k → Descends L i k
 further (child c) d = deeper c (child d)
 further (deeper c e) d = deeper c (further e d)
 
@@ -30,7 +30,7 @@ module _ (L : List ℕ) (n : ℕ) (small : (k : ℕ) → k < 2 * n → getD L k 
       (w .0, omega arith)
 
   -- so a circle leaves a record unplaced
-  circle-short : (p : Placed) → Laid L n p → Circle L n → p .count < n
+  circle-short : (p : Placed) → Laid L n p → LinkCircle L n → p .count < n
   circle-short p h c =
       elim (decLt (p .count) n) [
         | yes l ↦ l
@@ -49,7 +49,7 @@ module _ (L : List ℕ) (n : ℕ) (small : (k : ℕ) → k < 2 * n → getD L k 
     abbrev named : (k : ℕ) → k < 2 * n → (0 < getD L k 0) × (getD S (getD L k 0 - 1) 0 ≡ 0) → Unplaced
     named k l o = record { num = getD L k 0 - 1; inside = omega (arith, small k l); free = o .1 }
 
-    under : (u : Unplaced) → (v : Unplaced) × Child L (u .num) (v .num)
+    under : (u : Unplaced) → (v : Unplaced) × ChildLink L (u .num) (v .num)
     under u =
         let i = u .num in
         ⊎-elim
@@ -77,7 +77,7 @@ module _ (L : List ℕ) (n : ℕ) (small : (k : ℕ) → k < 2 * n → getD L k 
           go (yes g) ih = further (ih g) (under (walk b) .1)
           go (no g) ih = let e : a ≡ b = omega arith in rw e (child (under (walk b) .1))
 
-      round : Circle L n
+      round : LinkCircle L n
       round =
           let t = pigeon n (λ k. walk k .num) (λ k l. walk k .inside) in (
             walk (t .a) .num,
@@ -85,7 +85,7 @@ module _ (L : List ℕ) (n : ℕ) (small : (k : ℕ) → k < 2 * n → getD L k 
             subst (λ (x : ℕ). Descends L (walk (t .a) .num) x) (sym (t .same)) (down (t .a) (t .b) (t .earlier)),
           )
 
-  short-circle : (p : Placed) → Laid L n p → earliest L (p .slots) n 0 ≡ Nothing → p .count < n → Circle L n
+  short-circle : (p : Placed) → Laid L n p → earliest L (p .slots) n 0 ≡ Nothing → p .count < n → LinkCircle L n
   short-circle p h stuck l =
       let g = tally-gap (p .slots) n (omega (arith, h .total)) in
       round (p .slots) stuck (record { num = g .0; inside = g .1; free = g .2 })

@@ -8,7 +8,7 @@ use native.Mathlib.Decide.{decLt, ℕ-discrete}
 use lib.ListN.{length, getD, replicate, length-set, length-replicate, getD-replicate}
 use lib.Seq.{getD-set-same, getD-set-other}
 use Rattle.placing.specs.Placing.{ready, Placed, put, placing, unplaced, placed, Links}
-use Rattle.placing.specs.Circles.{Child, first, second}
+use Rattle.placing.specs.Circles.{ChildLink, first, second}
 use Rattle.placing.proofs.Views.{ready-view, child-ok}
 use Rattle.placing.proofs.Steps.{placing-keeps}
 use Rattle.placing.proofs.Tally.{tally, tally-all, tally-none, tally-set}
@@ -18,7 +18,7 @@ use Rattle.placing.proofs.Tally.{tally, tally-all, tally-none, tally-se
 pub record Laid (L : List ℕ) (n : ℕ) (p : Placed) : Type 0 where
   pub long : n ≤ length (p .slots)
   pub low : (i : ℕ) → i < n → getD (p .slots) i 0 ≤ p .count
-  pub ranks : (i j : ℕ) → i < n → Child L i j → 0 < getD (p .slots) i 0 →
+  pub ranks : (i j : ℕ) → i < n → ChildLink L i j → 0 < getD (p .slots) i 0 →
       (0 < getD (p .slots) j 0) × (getD (p .slots) j 0 < getD (p .slots) i 0)
   pub total : tally (p .slots) n ≡ p .count
   pub onto : (j : ℕ) → j < p .count → (i : ℕ) × (i < n) × (getD (p .slots) i 0 ≡ j + 1)
@@ -40,7 +40,7 @@ others L p i r j g =
     unlike p i j (λ e. let z : getD (p .slots) j 0 ≡ 0 = rw e (ready-view L (p .slots) i r .0) in omega arith)
 
 module _ (L : List ℕ) (n : ℕ) (small : (k : ℕ) → k < 2 * n → getD L k 0 ≤ n) where
-  pub child-in : (i j : ℕ) → i < n → Child L i j → j < n
+  pub child-in : (i j : ℕ) → i < n → ChildLink L i j → j < n
   child-in i j l (first e) = omega (arith, small (2 * i) (omega arith))
   child-in i j l (second e) = omega (arith, small (2 * i + 1) (omega arith))
 
@@ -61,11 +61,11 @@ module _ (L : List ℕ) (n : ℕ) (small : (k : ℕ) → k < 2 * n → getD L k 
     at-mine : (a : ℕ) → a ≡ i → getD S′ a 0 ≡ k + 1
     at-mine a e = rw e (mine p i here)
 
-    ranked : (a j : ℕ) → a < n → Child L a j → 0 < getD S′ a 0 → (0 < getD S′ j 0) × (getD S′ j 0 < getD S′ a 0)
+    ranked : (a j : ℕ) → a < n → ChildLink L a j → 0 < getD S′ a 0 → (0 < getD S′ j 0) × (getD S′ j 0 < getD S′ a 0)
     ranked a j la c g =
         elim (ℕ-discrete a i) [
           | yes e ↦
-              let c′ : Child L i j = subst (λ (x : ℕ). Child L x j) e c in
+              let c′ : ChildLink L i j = subst (λ (x : ℕ). ChildLink L x j) e c in
               let s : 0 < getD S j 0 = child-ok L S i j r c′ in
               let o = others L p i r j s in
               let m = at-mine a e in

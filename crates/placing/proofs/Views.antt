@@ -9,9 +9,9 @@ use native.Mathlib.Decide.{ℕ-discrete}
 use lib.ListN.{getD}
 use lib.Dec.{eqb}
 use borrow.Author.Tests.{eq-eqb, ne-eqb, eqb-true, eqb-false, not-true, not-false}
-use Rattle.wire.specs.declared.Found.the-variants.{Index, Nothing}
+use Rattle.lists.specs.declared.Found.the-variants.{Index, Nothing}
 use Rattle.placing.specs.Placing.{settled, ready, earliest}
-use Rattle.placing.specs.Circles.{Child, first, second}
+use Rattle.placing.specs.Circles.{ChildLink, first, second}
 
 -- a link
 module _ (S : List ℕ) (w : ℕ) where
@@ -60,7 +60,7 @@ module _ (L S : List ℕ) (i : ℕ) where
       go false q k = inl q
 
   -- an unplaced record is ready once its children are placed
-  pub ready-if : getD S i 0 ≡ 0 → ((j : ℕ) → Child L i j → 0 < getD S j 0) → ready L S i ≡ false → ⊥
+  pub ready-if : getD S i 0 ≡ 0 → ((j : ℕ) → ChildLink L i j → 0 < getD S j 0) → ready L S i ≡ false → ⊥
   ready-if e placed h =
       ⊎-elim
       (λ f.
@@ -72,7 +72,7 @@ module _ (L S : List ℕ) (i : ℕ) where
       (ready-not h e)
 
   -- a child of a ready record is placed
-  pub child-ok : (j : ℕ) → ready L S i ≡ true → Child L i j → 0 < getD S j 0
+  pub child-ok : (j : ℕ) → ready L S i ≡ true → ChildLink L i j → 0 < getD S j 0
   child-ok j r (first e) = settled-view S _ j (ready-view r .1) e
   child-ok j r (second e) = settled-view S _ j (ready-view r .2) e
 

@@ -3,7 +3,7 @@ ghost use mathlib.Core.Path.{_≡_};
 ghost use Prim.Native.Nat.{_+_, _*_, _≤_, _<_};
 ghost use lib.ListN.{length, set};
 ghost use Rattle.placing.specs.Placing.{settled, ready, earliest, Placed, placing, Links};
-use wire::Found;
+use lists::Found;
 
 // Whether a link names no record, or a placed one.
 fn settled(slots: &[u32], link: u32) -> bool

@@ -1,20 +1,23 @@
 -- The cases on the plain engine, by computation.
 use mathlib.Core.Path.{refl}
-use Rattle.table.specs.Slots.{room, place, firstAt, secondAt, putWords, nodeAt, putNode}
+use Rattle.lists.specs.Lists.{anyOf}
+use Rattle.refusals.specs.Refusals.{answer}
+use Rattle.table.specs.Base.{baseOf, fromBase}
+use Rattle.table.specs.Slots.{room, isUsed, firstAt, secondAt, putWords, nodeAt, putNode}
 use Rattle.table.specs.Sound.{slotSound, sound}
-use Rattle.table.specs.Frames.{frameRoom}
-use Rattle.engine.specs.Run.{admitAt, admit}
+use Rattle.frames.specs.Frames.{frameRoom}
+use Rattle.engine.specs.Admission.{outOfRoom, dangling, unsound, slotRows}
 use Rattle.plain.specs.Rules.{rules, rule}
 use Rattle.plain.specs.Apply.{make, carryOut, apply}
-use Rattle.plain.specs.Run.{begin, plainTail, plainRun}
+use Rattle.plain.specs.Run.{tooDeep, plainRows, plainTail, plainRun}
 use Rattle.plain.specs.Cases.{PlainCasesHold, PlainFurtherHold}
 
 pub plain-cases-hold : PlainCasesHold
-unfolding room place firstAt secondAt putWords nodeAt putNode slotSound sound frameRoom admitAt admit rules rule make carryOut apply
-    begin plainTail plainRun
+unfolding anyOf answer baseOf fromBase room isUsed firstAt secondAt putWords nodeAt putNode slotSound sound frameRoom
+    outOfRoom dangling unsound slotRows rules rule make carryOut apply tooDeep plainRows plainTail plainRun
 plain-cases-hold = refl
 
 pub plain-further-hold : PlainFurtherHold
-unfolding room place firstAt secondAt putWords nodeAt putNode slotSound sound frameRoom admitAt admit rules rule make carryOut apply
-    begin plainTail plainRun
+unfolding anyOf answer baseOf fromBase room isUsed firstAt secondAt putWords nodeAt putNode slotSound sound frameRoom
+    outOfRoom dangling unsound slotRows rules rule make carryOut apply tooDeep plainRows plainTail plainRun
 plain-further-hold = refl

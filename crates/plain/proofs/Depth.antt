@@ -14,7 +14,7 @@ use Rattle.plain.specs.declared.Applied.the-variants.{Gave, Halted}
 use Rattle.plain.specs.declared.Task.{Task}
 use Rattle.plain.specs.declared.Task.the-variants.{Make, Give, Go, Both, Then}
 use Rattle.plain.specs.Rules.{rule}
-use Rattle.plain.specs.Apply.{Came, came, andThen, spend, make, Application, carryOut, apply, FuelEnds}
+use Rattle.plain.specs.Apply.{Came, came, appliedThen, spend, make, Application, carryOut, apply, FuelEnds}
 
 -- ---- the fuel never grows
 
@@ -28,7 +28,7 @@ falls-more n m h (came w (Gave t q)) l = omega arith
 falls-more n m h (came w (Halted k q)) l = omega arith
 
 then-falls : (n : ℕ) (c : Came) (k : List ℕ → Slot → Progress → Came) → Falls n c →
-    ((w : List ℕ) (t : Slot) (q : Progress) → q .left ≤ n → Falls n (k w t q)) → Falls n (andThen c k)
+    ((w : List ℕ) (t : Slot) (q : Progress) → q .left ≤ n → Falls n (k w t q)) → Falls n (appliedThen c k)
 then-falls n (came w (Gave t q)) k h g = g w t q h
 then-falls n (came w (Halted m q)) k h g = h
 
@@ -67,16 +67,16 @@ apply-falls (suc d) places k w f x p =
 -- ---- the depth
 
 then-same : (n : ℕ) (c c′ : Came) (k k′ : List ℕ → Slot → Progress → Came) → c ≡ c′ → Falls n c →
-    ((w : List ℕ) (t : Slot) (q : Progress) → q .left ≤ n → k w t q ≡ k′ w t q) → andThen c k ≡ andThen c′ k′
-then-same n (came w (Gave t q)) c′ k k′ e h g = g w t q h ∙ ap (λ (c : Came). andThen c k′) e
-then-same n (came w (Halted m q)) c′ k k′ e h g = ap (λ (c : Came). andThen c k′) e
+    ((w : List ℕ) (t : Slot) (q : Progress) → q .left ≤ n → k w t q ≡ k′ w t q) → appliedThen c k ≡ appliedThen c′ k′
+then-same n (came w (Gave t q)) c′ k k′ e h g = g w t q h ∙ ap (λ (c : Came). appliedThen c k′) e
+then-same n (came w (Halted m q)) c′ k k′ e h g = ap (λ (c : Came). appliedThen c k′) e
 
 -- two that come to the same with n or less
 module _ (next next′ : Application) (falls : Falling next) (n : ℕ)
     (same : (k : ℕ) (w : List ℕ) (f x : Slot) (p : Progress) → p .left ≤ n → next k w f x p ≡ next′ k w f x p) (places waiting : ℕ) where
   next-same : (k : ℕ) (w : List ℕ) (f x : Slot) (p : Progress) → p .left ≤ n → (g g′ : List ℕ → Slot → Progress → Came) →
       ((v : List ℕ) (t : Slot) (q : Progress) → q .left ≤ n → g v t q ≡ g′ v t q) →
-      andThen (next k w f x p) g ≡ andThen (next′ k w f x p) g′
+      appliedThen (next k w f x p) g ≡ appliedThen (next′ k w f x p) g′
   next-same k w f x p h g g′ e =
       then-same n (next k w f x p) (next′ k w f x p) g g′ (same k w f x p h)
       (falls-more (p .left) n h (next k w f x p) (falls k w f x p)) e

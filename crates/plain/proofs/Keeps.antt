@@ -6,7 +6,7 @@ use lib.Dec.{ltb, eqb}
 use borrow.Author.Tests.{ltb-true}
 use Rattle.table.specs.declared.slots.Slot.{Slot}
 use Rattle.table.specs.Slots.{room}
-use Rattle.table.specs.Sound.{Sound}
+use Rattle.table.specs.Sound.{SlotsPass}
 use Rattle.table.proofs.Tests.{by-test}
 use Rattle.table.proofs.SoundLaws.{sound-next}
 use Rattle.plain.specs.declared.Progress.{Progress}
@@ -14,13 +14,13 @@ use Rattle.plain.specs.declared.Applied.the-variants.{Gave, Halted}
 use Rattle.plain.specs.declared.Task.{Task}
 use Rattle.plain.specs.declared.Task.the-variants.{Make, Give, Go, Both, Then}
 use Rattle.plain.specs.Rules.{rule}
-use Rattle.plain.specs.Fit.{Names}
-use Rattle.plain.specs.Apply.{Came, came, andThen, spend, make, Application, carryOut, apply}
+use Rattle.plain.specs.Fit.{TaskNames}
+use Rattle.plain.specs.Apply.{Came, came, appliedThen, spend, make, Application, carryOut, apply}
 use Rattle.plain.proofs.RuleLaws.{rule-names}
 
 -- where so many slots were used
 pub record Kept (used : ℕ) (w : List ℕ) (t : Slot) (q : Progress) : Type 0 where
-  pub slots : Sound w (q .used)
+  pub slots : SlotsPass w (q .used)
   pub slot : t .0 < q .used
   pub more : used ≤ q .used
 
@@ -33,18 +33,18 @@ keeps-on n m h (came w (Gave t q)) k = record { slots = k .slots; slot = k .slot
 keeps-on n m h (came w (Halted i q)) k = tt
 
 then-keeps : (n : ℕ) (c : Came) (k : List ℕ → Slot → Progress → Came) → Keeps n c →
-    ((w : List ℕ) (t : Slot) (q : Progress) → Kept n w t q → Keeps (q .used) (k w t q)) → Keeps n (andThen c k)
+    ((w : List ℕ) (t : Slot) (q : Progress) → Kept n w t q → Keeps (q .used) (k w t q)) → Keeps n (appliedThen c k)
 then-keeps n (came w (Gave t q)) k h g = keeps-on n (q .used) (h .more) (k w t q) (g w t q h)
 then-keeps n (came w (Halted m q)) k h g = tt
 
 -- of an application
 abbrev Keeping : Application → Type 0
 Keeping next =
-    (k : ℕ) (w : List ℕ) (f x : Slot) (p : Progress) → Sound w (p .used) → f .0 < p .used → x .0 < p .used →
+    (k : ℕ) (w : List ℕ) (f x : Slot) (p : Progress) → SlotsPass w (p .used) → f .0 < p .used → x .0 < p .used →
     Keeps (p .used) (next k w f x p)
 
 module _ (next : Application) (keeps : Keeping next) (places waiting : ℕ) where
-  carry-keeps : (w : List ℕ) (p : Progress) → Sound w (p .used) → (task : Task) → Names (p .used) task →
+  carry-keeps : (w : List ℕ) (p : Progress) → SlotsPass w (p .used) → (task : Task) → TaskNames (p .used) task →
       Keeps (p .used) (carryOut next places waiting w p task)
   unfolding carryOut make
   carry-keeps w p good (Make m) h =

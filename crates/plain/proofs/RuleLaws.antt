@@ -5,20 +5,20 @@ use mathlib.Core.List.{List}
 use Rattle.table.specs.declared.slots.Slot.{Slot}
 use Rattle.table.specs.declared.slots.Node.{Node}
 use Rattle.table.specs.declared.slots.Node.the-variants.{Leaf, Stem, Fork}
-use Rattle.table.specs.declared.frames.Frame.the-variants.{Operand, Argument}
+use Rattle.frames.specs.declared.Frame.the-variants.{Operand, Argument}
 use Rattle.table.specs.Slots.{nodeAt}
-use Rattle.table.specs.Sound.{Sound}
-use Rattle.engine.specs.Rules.{Action, onArgument, onFork, onFunction}
-use Rattle.engine.specs.Rules as run
-use Rattle.engine.specs.Ready.{Asks}
-use Rattle.engine.proofs.Keeps.{rule-asks}
+use Rattle.table.specs.Sound.{SlotsPass}
+use Rattle.stepping.specs.Rules.{SlotAction, onArgument, onFork, onFunction}
+use Rattle.stepping.specs.Rules as run
+use Rattle.stepping.specs.Ready.{Asks}
+use Rattle.stepping.proofs.Keeps.{rule-asks}
 use Rattle.plain.specs.declared.Task.{Task}
 use Rattle.plain.specs.declared.Task.the-variants.{Make, Give, Go, Both, Then}
 use Rattle.plain.specs.Rules.{rules, firstChild, rule}
-use Rattle.plain.specs.Fit.{Names}
+use Rattle.plain.specs.Fit.{TaskNames}
 
 -- what the run's rule asks for where the plain engine's leaves a task
-abbrev pub action : Task → Action
+abbrev pub action : Task → SlotAction
 action (Make n) = run.Make n
 action (Give t) = run.Give t
 action (Go f x) = run.Go f x
@@ -44,12 +44,12 @@ module _ (w : List ℕ) (x : Slot) where
   same-function (Stem a) = refl
   same-function (Fork s c) = same-fork s c (nodeAt w (s .0))
 
-pub same-rule : (w : List ℕ) (f x : Slot) → action (rule w f x) ≡ run.rule w f x
-unfolding rule run.rule
+pub same-rule : (w : List ℕ) (f x : Slot) → action (rule w f x) ≡ run.slotRule w f x
+unfolding rule run.slotRule
 same-rule w f x = same-function w x (nodeAt w (f .0))
 
 -- a task names what its action does
-task-names : (used : ℕ) (task : Task) → Asks used (action task) → Names used task
+task-names : (used : ℕ) (task : Task) → Asks used (action task) → TaskNames used task
 task-names used (Make n) h = h
 task-names used (Give t) h = h
 task-names used (Go f x) h = h
@@ -57,7 +57,7 @@ task-names used (Both a b x) h = (h .0, h .2 .0, h .1)
 task-names used (Then c u v) h = h
 
 -- the plain engine's rule on used slots names nothing but used slots
-pub rule-names : (w : List ℕ) (f x : Slot) (used : ℕ) → Sound w used → f .0 < used → x .0 < used → Names used (rule w f x)
+pub rule-names : (w : List ℕ) (f x : Slot) (used : ℕ) → SlotsPass w used → f .0 < used → x .0 < used → TaskNames used (rule w f x)
 rule-names w f x used slots hf hx =
     task-names used (rule w f x)
     (subst (Asks used) (sym (same-rule w f x))

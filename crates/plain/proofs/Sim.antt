@@ -12,34 +12,34 @@ use lib.Seq.{ext-getD}
 use borrow.Author.Tests.{lt-ltb, le-ltb}
 use Rattle.table.specs.declared.slots.Slot.{Slot}
 use Rattle.table.specs.declared.slots.Node.{Node}
-use Rattle.table.specs.declared.frames.Frame.{Frame}
-use Rattle.table.specs.declared.frames.Frame.the-variants.{Operand, Argument, Function}
+use Rattle.frames.specs.declared.Frame.{Frame}
+use Rattle.frames.specs.declared.Frame.the-variants.{Operand, Argument, Function}
 use Rattle.table.specs.Slots.{slot, room, putNode}
-use Rattle.table.specs.Sound.{Sound}
-use Rattle.table.specs.Holds.{ZeroFrom}
-use Rattle.table.specs.Frames.{frameWidth, frameRoom, frameAt, putFrame, dropFrame}
-use Rattle.table.specs.Frames as frames
+use Rattle.table.specs.Sound.{SlotsPass}
+use Rattle.frames.specs.Stand.{ZeroFrom}
+use Rattle.frames.specs.Frames.{frameWidth, frameRoom, frameAt, putFrame, dropFrame}
+use Rattle.frames.specs.Frames as frames
 use Rattle.table.proofs.SoundLaws.{sound-next}
-use Rattle.table.proofs.FrameLaws.{frame-room-long, length-put-frame, frame-here, length-drop}
-use Rattle.table.proofs.FrameLaws.{zero-put, zero-over, zero-drop, frame-under, drop-under}
-use Rattle.engine.specs.declared.step.State.{State}
-use Rattle.engine.specs.declared.step.Status.{Status}
-use Rattle.engine.specs.declared.step.Status.the-variants.{Going, Done as IsDone, NoSlot, NoPlace}
+use Rattle.frames.proofs.FrameLaws.{frame-room-long, length-put-frame, frame-here, length-drop}
+use Rattle.frames.proofs.FrameLaws.{zero-put, zero-over, zero-drop, frame-under, drop-under}
+use Rattle.stepping.specs.declared.State.{State}
+use Rattle.stepping.specs.declared.Status.{Status}
+use Rattle.stepping.specs.declared.Status.the-variants.{Going, Done as IsDone, OutOfSlots, OutOfPlaces}
 use Rattle.engine.specs.declared.RunAnswer.the-variants as run
-use Rattle.engine.specs.Rules.{Push}
-use Rattle.engine.specs.Step.{Stepped, Met, met, beside, meetFrame, meet, carry, step}
-use Rattle.engine.specs.Ready.{Waits}
+use Rattle.stepping.specs.Rules.{Push}
+use Rattle.stepping.specs.Step.{Stepped, Met, met, beside, meetFrame, meet, carry, step}
+use Rattle.stepping.specs.Ready.{Waits}
 use Rattle.engine.specs.Run.{Ran, ran, finished, resume, drive}
-use Rattle.engine.proofs.Keeps.{waits-more, waits-put}
+use Rattle.stepping.proofs.Keeps.{waits-more, waits-put}
 use Rattle.plain.specs.declared.Progress.{Progress}
 use Rattle.plain.specs.declared.Applied.the-variants.{Gave, Halted}
 use Rattle.plain.specs.declared.Task.{Task}
 use Rattle.plain.specs.declared.Task.the-variants.{Make, Give, Go, Both, Then}
 use Rattle.plain.specs.Rules.{rule}
-use Rattle.plain.specs.Apply.{Came, came, andThen, spend, grow, make, carryOut, apply}
+use Rattle.plain.specs.Apply.{Came, came, appliedThen, spend, grow, make, carryOut, apply}
 use Rattle.plain.specs.declared.PlainAnswer.the-variants.{Refused, Done, Stopped}
 use Rattle.plain.specs.Run.{Played, played, answered}
-use Rattle.plain.specs.Fit.{Names}
+use Rattle.plain.specs.Fit.{TaskNames}
 use Rattle.plain.proofs.RuleLaws.{action, same-rule, rule-names}
 use Rattle.plain.proofs.Depth.{apply-none, apply-some}
 
@@ -92,8 +92,8 @@ module _ (j : List ℕ) (i : ℕ) where
 abbrev settledAs : ℕ → ℕ → List ℕ → List ℕ → State → Status → Ran
 settledAs n k w j s Going = drive n k w j s
 settledAs n k w j s IsDone = ran w j (finished s k)
-settledAs n k w j s NoSlot = ran w j (finished s k)
-settledAs n k w j s NoPlace = ran w j (finished s k)
+settledAs n k w j s OutOfSlots = ran w j (finished s k)
+settledAs n k w j s OutOfPlaces = ran w j (finished s k)
 
 abbrev settled : ℕ → ℕ → List ℕ → Met → Ran
 settled n k w (met j t) = settledAs n k w j (t .state) (t .status)
@@ -119,7 +119,7 @@ state waiting f x p = record { f = f; x = x; used = p .used; waiting = waiting }
 
 -- later on, no slot is lost and no fuel won
 pub record Later (p : Progress) (w : List ℕ) (q : Progress) : Type 0 where
-  pub slots : Sound w (q .used)
+  pub slots : SlotsPass w (q .used)
   pub more : p .used ≤ q .used
   pub less : q .left ≤ p .left
 
@@ -139,7 +139,7 @@ module _ (fuel places : ℕ) where
 
   -- what an application works on, while so many frames wait
   pub record Set (waiting : ℕ) (w j : List ℕ) (p : Progress) : Type 0 where
-    pub slots : Sound w (p .used)
+    pub slots : SlotsPass w (p .used)
     pub waits : Waits j (p .used) waiting
     pub above : ZeroFrom j waiting
     pub rooms : frameRoom j ≡ places
@@ -174,7 +174,7 @@ module _ (fuel places : ℕ) where
 
   -- a frame waits at place i, after those below it, or over the newest
   set-put : (n i : ℕ) (w j : List ℕ) (p : Progress) (k : Frame) → Set n w j p → i ≤ n → n ≤ i + 1 → i < places →
-      frames.Names (p .used) k → Set (i + 1) w (putFrame j i k) p
+      frames.FrameNames (p .used) k → Set (i + 1) w (putFrame j i k) p
   set-put n i w j p k set l m h names =
       record {
         slots = set .slots;
@@ -194,7 +194,7 @@ module _ (fuel places : ℕ) where
   -- a stop is passed on; what is given goes on
   bind : (i i′ : ℕ) (j j′ : List ℕ) (p p′ : Progress) (c : Came) (next : List ℕ → Slot → Progress → Came) (r : Ran) →
       Matches i′ j′ p′ c r → ((w : List ℕ) (t : Slot) (q : Progress) → Gives i′ j′ p′ w t q r → Matches i j p (next w t q) r) →
-      Matches i j p (andThen c next) r
+      Matches i j p (appliedThen c next) r
   bind i i′ j j′ p p′ (came w (Gave t q)) next r m k = k w t q m
   bind i i′ j j′ p p′ (came w (Halted n q)) next r m k = m
 
@@ -236,7 +236,7 @@ module _ (fuel places : ℕ) where
       set-spent = set-later i w j w p (spend p) set spent
 
       -- a place is left, and a frame waits in it
-      module _ (here : i < places) (h : i < frameRoom j) (k : Frame) (n : frames.Names (p .used) k) where
+      module _ (here : i < places) (h : i < frameRoom j) (k : Frame) (n : frames.FrameNames (p .used) k) where
         abbrev j₁ : List ℕ
         j₁ = putFrame j i k
 
@@ -250,7 +250,7 @@ module _ (fuel places : ℕ) where
         first : (f x : Slot) → f .0 < p .used → x .0 < p .used → (next : List ℕ → Slot → Progress → Came) →
             ((v : List ℕ) (t : Slot) (q : Progress) → Gives (i + 1) j₁ (spend p) v t q (runs (i + 1) w j₁ f x (spend p)) →
             Matches i j p (next v t q) (runs (i + 1) w j₁ f x (spend p))) →
-            Matches i j p (andThen (apply d places (i + 1) w f x (spend p)) next) (runs (i + 1) w j₁ f x (spend p))
+            Matches i j p (appliedThen (apply d places (i + 1) w f x (spend p)) next) (runs (i + 1) w j₁ f x (spend p))
         first f x hf hx next then =
             bind i (i + 1) j j₁ p (spend p) (apply d places (i + 1) w f x (spend p)) next (runs (i + 1) w j₁ f x (spend p))
             (sim (i + 1) w j₁ f x (spend p) set₁ hf hx (omega arith)) then
@@ -282,7 +282,7 @@ module _ (fuel places : ℕ) where
                 (g .slot)
 
             operand-goes :
-                Matches i j p (andThen (apply d places (i + 1) v b x q) (λ v₂ y q₂. apply d places i v₂ u y q₂)) r
+                Matches i j p (appliedThen (apply d places (i + 1) v b x q) (λ v₂ y q₂. apply d places i v₂ u y q₂)) r
             operand-goes =
                 bind i (i + 1) j j₂ p q (apply d places (i + 1) v b x q) (λ v₂ y q₂. apply d places i v₂ u y q₂) r
                 (rw second
@@ -312,7 +312,7 @@ module _ (fuel places : ℕ) where
               later = l;
             }
 
-        makes : (n : Node) → Names (p .used) (Make n) → Matches i j p (make w p n) (turn (carry w j s (action (Make n))))
+        makes : (n : Node) → TaskNames (p .used) (Make n) → Matches i j p (make w p n) (turn (carry w j s (action (Make n))))
         unfolding make carry
         makes n h =
             elim (decLt (p .used) (room w)) [
@@ -338,7 +338,7 @@ module _ (fuel places : ℕ) where
               | no l ↦ let e : places ≤ i = omega (arith, l) in rw (set .rooms, le-ltb i places e)
             ]
 
-        carries : (task : Task) → Names (p .used) task →
+        carries : (task : Task) → TaskNames (p .used) task →
             Matches i j p (carryOut (apply d places) places i w p task) (turn (carry w j s (action task)))
         unfolding carryOut carry
         carries (Make n) h = makes n h

@@ -7,15 +7,15 @@ use borrow.Author.Tests.{lt-ltb, le-ltb}
 use Rattle.table.specs.declared.slots.Slot.{Slot}
 use Rattle.table.specs.declared.slots.Node.{Node}
 use Rattle.table.specs.Slots.{slot, room, nodeAt, putNode, Below}
-use Rattle.engine.proofs.Keeps.{below-more, children}
+use Rattle.stepping.proofs.Keeps.{below-more, children}
 use Rattle.plain.specs.declared.Progress.{Progress}
 use Rattle.plain.specs.declared.Applied.{Applied}
 use Rattle.plain.specs.declared.Applied.the-variants.{Gave, Halted}
 use Rattle.plain.specs.declared.Task.{Task}
 use Rattle.plain.specs.declared.Task.the-variants.{Make, Give, Go, Both, Then}
 use Rattle.plain.specs.Rules.{rule}
-use Rattle.plain.specs.Apply.{Came, came, andThen, spend, grow, make, carryOut, apply}
-use Rattle.plain.specs.Fit.{Fit, Names, Able}
+use Rattle.plain.specs.Apply.{Came, came, appliedThen, spend, grow, make, carryOut, apply}
+use Rattle.plain.specs.Fit.{Fit, TaskNames, Able}
 use Rattle.plain.proofs.RuleLaws.{rule-names}
 use Rattle.plain.proofs.Depth.{Falls, apply-falls, apply-none, apply-some, apply-deep}
 use Rattle.plain.proofs.Keeps.{Kept, Keeps, apply-keeps}
@@ -65,7 +65,7 @@ module _ (w : List ℕ) (f x : Slot) (p : Progress) (fit : Fit w f x p) where
   rule-able z task e =
       record {
         slots = fit .slots;
-        names = subst (Names (p .used)) (sym e) (rule-names w f x (p .used) (fit .slots) (fit .function) (fit .argument));
+        names = subst (TaskNames (p .used)) (sym e) (rule-names w f x (p .used) (fit .slots) (fit .function) (fit .argument));
         some = omega (arith, z);
       }
 
@@ -81,12 +81,12 @@ module _ (w : List ℕ) (f x : Slot) (p : Progress) (fit : Fit w f x p) where
 -- ---- what is carried out
 
 -- the first application of two stops, or gives u
-module _ (o : Came) (k : List ℕ → Slot → Progress → Came) (v : List ℕ) (a : Applied) (h : andThen (came v a) k ≡ o) where
+module _ (o : Came) (k : List ℕ → Slot → Progress → Came) (v : List ℕ) (a : Applied) (h : appliedThen (came v a) k ≡ o) where
   halts : (n : ℕ) (q : Progress) → a ≡ Halted n q → came v a ≡ o
-  halts n q e = rw e (ap (λ (b : Applied). andThen (came v b) k) (sym e) ∙ h)
+  halts n q e = rw e (ap (λ (b : Applied). appliedThen (came v b) k) (sym e) ∙ h)
 
   goes : (u : Slot) (q : Progress) → a ≡ Gave u q → k v u q ≡ o
-  goes u q e = ap (λ (b : Applied). andThen (came v b) k) (sym e) ∙ h
+  goes u q e = ap (λ (b : Applied). appliedThen (came v b) k) (sym e) ∙ h
 
 -- what a call of `apply` asks for, where its caller's measure is t
 abbrev pub Calls : ℕ → List ℕ → Slot → Slot → Progress → Type 0
@@ -128,7 +128,7 @@ module _ (places waiting : ℕ) (w : List ℕ) (p : Progress) (task : Task) wher
 
   module _ (able : Able w task p) where
     pub make-able : (node : Node) → task ≡ Make node → (0 < p .left) × Below (p .used) node
-    make-able node h = (able .some, subst (Names (p .used)) h (able .names) .0)
+    make-able node h = (able .some, subst (TaskNames (p .used)) h (able .names) .0)
 
     module _ (t : ℕ) (μ : 2 * (p .left) ≡ t) where
       call-spent : (f x : Slot) → f .0 < p .used → x .0 < p .used → (q : Progress) → q ≡ spend p → Calls t w f x q
@@ -142,7 +142,7 @@ module _ (places waiting : ℕ) (w : List ℕ) (p : Progress) (task : Task) wher
       call-later v f x q l fit = (omega (arith, μ, able .some), fit)
 
       pub call-go : (f x : Slot) → task ≡ Go f x → (q : Progress) → q ≡ spend p → Calls t w f x q
-      call-go f x h = let a = subst (Names (p .used)) h (able .names) in call-spent f x (a .0) (a .1)
+      call-go f x h = let a = subst (TaskNames (p .used)) h (able .names) in call-spent f x (a .0) (a .1)
 
   -- ---- rule 4
 
@@ -153,8 +153,8 @@ module _ (places waiting : ℕ) (w : List ℕ) (p : Progress) (task : Task) wher
 
     -- the first application
     module _ (able : Able w task p) (q₁ : Progress) (e₁ : q₁ ≡ spend p) where
-      both-names : Names (p .used) (Both a b x)
-      both-names = subst (Names (p .used)) h (able .names)
+      both-names : TaskNames (p .used) (Both a b x)
+      both-names = subst (TaskNames (p .used)) h (able .names)
 
       both-fit : Fit w a x q₁
       both-fit = rw e₁ (record { slots = able .slots; function = both-names .0; argument = both-names .2 })
@@ -164,11 +164,11 @@ module _ (places waiting : ℕ) (w : List ℕ) (p : Progress) (task : Task) wher
 
       module _ (l : waiting < places) (v₁ : List ℕ) (first : Applied)
           (g : came v₁ first ≡ apply (q₁ .left) places (waiting + 1) w a x q₁) where
-        both-out : andThen (came v₁ first) (λ w₁ u p₁. andThen (apply n places (waiting + 1) w₁ b x p₁)
+        both-out : appliedThen (came v₁ first) (λ w₁ u p₁. appliedThen (apply n places (waiting + 1) w₁ b x p₁)
             (λ w₂ v p₂. apply n places waiting w₂ u v p₂)) ≡ out
         unfolding carryOut
         both-out =
-            ap (λ (c : Came). andThen c (λ w₁ u p₁. andThen (apply n places (waiting + 1) w₁ b x p₁)
+            ap (λ (c : Came). appliedThen c (λ w₁ u p₁. appliedThen (apply n places (waiting + 1) w₁ b x p₁)
             (λ w₂ v p₂. apply n places waiting w₂ u v p₂))) (first-is a x q₁ e₁ v₁ first g)
             ∙ (rw (h, lt-ltb waiting places l))
 
@@ -195,9 +195,9 @@ module _ (places waiting : ℕ) (w : List ℕ) (p : Progress) (task : Task) wher
           both-second t μ = call-later able t μ v₁ b x q (kept .1) fit₂
 
           module _ (v₂ : List ℕ) (second : Applied) (i : came v₂ second ≡ apply (q .left) places (waiting + 1) v₁ b x q) where
-            both-on : andThen (came v₂ second) (λ w₂ v p₂. apply n places waiting w₂ u v p₂) ≡ out
+            both-on : appliedThen (came v₂ second) (λ w₂ v p₂. apply n places waiting w₂ u v p₂) ≡ out
             both-on =
-                ap (λ (c : Came). andThen c (λ w₂ v p₂. apply n places waiting w₂ u v p₂))
+                ap (λ (c : Came). appliedThen c (λ w₂ v p₂. apply n places waiting w₂ u v p₂))
                 (to-depth (waiting + 1) v₁ b x q (kept .1) (came v₂ second) i)
                 ∙ goes out _ v₁ first both-out u q eu
 
@@ -231,8 +231,8 @@ module _ (places waiting : ℕ) (w : List ℕ) (p : Progress) (task : Task) wher
     then-full l = rw (h, le-ltb waiting places l)
 
     module _ (able : Able w task p) (q₁ : Progress) (e₁ : q₁ ≡ spend p) where
-      then-names : Names (p .used) (Then c u v)
-      then-names = subst (Names (p .used)) h (able .names)
+      then-names : TaskNames (p .used) (Then c u v)
+      then-names = subst (TaskNames (p .used)) h (able .names)
 
       then-fit : Fit w c u q₁
       then-fit = rw e₁ (record { slots = able .slots; function = then-names .0; argument = then-names .1 })
@@ -242,10 +242,10 @@ module _ (places waiting : ℕ) (w : List ℕ) (p : Progress) (task : Task) wher
 
       module _ (l : waiting < places) (v₁ : List ℕ) (first : Applied)
           (g : came v₁ first ≡ apply (q₁ .left) places (waiting + 1) w c u q₁) where
-        then-out : andThen (came v₁ first) (λ w₁ t p₁. apply n places waiting w₁ t v p₁) ≡ out
+        then-out : appliedThen (came v₁ first) (λ w₁ t p₁. apply n places waiting w₁ t v p₁) ≡ out
         unfolding carryOut
         then-out =
-            ap (λ (a : Came). andThen a (λ w₁ t p₁. apply n places waiting w₁ t v p₁)) (first-is c u q₁ e₁ v₁ first g)
+            ap (λ (a : Came). appliedThen a (λ w₁ t p₁. apply n places waiting w₁ t v p₁)) (first-is c u q₁ e₁ v₁ first g)
             ∙ (rw (h, lt-ltb waiting places l))
 
         pub then-halted : (m : ℕ) (q : Progress) → first ≡ Halted m q → came v₁ first ≡ out

@@ -19,9 +19,9 @@ pub data Came : Type 0 where
   came : List ℕ → Applied → Came
 
 -- what is given goes on; a stop is passed on
-abbrev pub andThen : Came → (List ℕ → Slot → Progress → Came) → Came
-andThen (came w (Gave t p)) next = next w t p
-andThen (came w (Halted n p)) next = came w (Halted n p)
+abbrev pub appliedThen : Came → (List ℕ → Slot → Progress → Came) → Came
+appliedThen (came w (Gave t p)) next = next w t p
+appliedThen (came w (Halted n p)) next = came w (Halted n p)
 
 -- a step more
 abbrev pub spend : Progress → Progress
@@ -53,14 +53,14 @@ carryOut next places waiting w p (Go f x) = next waiting w f x (spend p)
 -- 4: a job waits while a is applied to x, which gives u, and while b is, which gives v; then u is applied to v
 carryOut next places waiting w p (Both a b x) =
     cond (ltb waiting places)
-    (andThen (next (waiting + 1) w a x (spend p))
-    (λ w₁ u p₁. andThen (next (waiting + 1) w₁ b x p₁)
+    (appliedThen (next (waiting + 1) w a x (spend p))
+    (λ w₁ u p₁. appliedThen (next (waiting + 1) w₁ b x p₁)
     (λ w₂ v p₂. next waiting w₂ u v p₂)))
     (came w (Halted 33 p))
 -- 7: a job waits while c is applied to u, which gives t; then t is applied to v
 carryOut next places waiting w p (Then c u v) =
     cond (ltb waiting places)
-    (andThen (next (waiting + 1) w c u (spend p))
+    (appliedThen (next (waiting + 1) w c u (spend p))
     (λ w₁ t p₁. next waiting w₁ t v p₁))
     (came w (Halted 33 p))
 

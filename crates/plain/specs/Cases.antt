@@ -4,24 +4,24 @@ use mathlib.Core.Path.{_≡_}
 use mathlib.Core.List.{List, [], _∷_, map}
 use lib.ListN.{replicate}
 use lib.IntN.{ℤ, pos, negsuc}
-use Rattle.table.specs.Frames.{frameRoom}
-use Rattle.engine.specs.Cases.{Case, table, cases}
+use Rattle.frames.specs.Frames.{frameRoom}
+use Rattle.engine.specs.Cases.{RunCase, table, runCases}
 use Rattle.plain.specs.Run.{plainRun}
 use Rattle.plain.specs.Meaning.{Shown, shown}
 
 -- on the same table, with the frame table's room
-abbrev pub given : Case → Shown
-given c =
+abbrev pub plainGiven : RunCase → Shown
+plainGiven c =
     shown (plainRun (c .of (replicate (c .free) 9)) (c .base) (c .f) (c .x) (c .used) (c .fuel) (frameRoom (replicate (c .jobs) 8)))
 
 -- number, result, steps, used count
-abbrev pub wanted : Case → Shown
-wanted c =
+abbrev pub plainWanted : RunCase → Shown
+plainWanted c =
     let a = c .answer in
     record { words = c .of (c .words); answer = record { number = a .number; slot = a .slot; steps = a .steps; used = a .used } }
 
 abbrev pub PlainCasesHold : Type 0
-PlainCasesHold = map given cases ≡ map wanted cases
+PlainCasesHold = map plainGiven runCases ≡ map plainWanted runCases
 
 -- ---- further cases, on the same table: L, stem L, stem (stem L), I, stem I and D
 
@@ -55,8 +55,8 @@ plays f x fuel free places words number slot steps used =
       used = used;
     }
 
-abbrev pub refuses : ℤ → ℤ → ℕ → ℕ → ℕ → PlainCase
-refuses base f fuel places number =
+abbrev pub plainRefuses : ℤ → ℤ → ℕ → ℕ → ℕ → PlainCase
+plainRefuses base f fuel places number =
     record {
       base = base;
       f = f;
@@ -71,17 +71,17 @@ refuses base f fuel places number =
       used = 0;
     }
 
-abbrev pub further : List PlainCase
-further =
+abbrev pub plainFurther : List PlainCase
+plainFurther =
     -- fuel and job room at 1,000 and above it, each alone and both
     plays 0 0 1000 2 1000 (1 ∷ 0 ∷ []) 0 6 1 7
-    ∷ refuses (pos 2) (pos 0) 1001 0 49
-    ∷ refuses (pos 2) (pos 0) 0 1001 49
-    ∷ refuses (pos 2) (pos 0) 1001 1001 49
+    ∷ plainRefuses (pos 2) (pos 0) 1001 0 49
+    ∷ plainRefuses (pos 2) (pos 0) 0 1001 49
+    ∷ plainRefuses (pos 2) (pos 0) 1001 1001 49
     -- 24, 23 and 21 come before 49
-    ∷ refuses (pos 0) (pos 0) 1001 0 24
-    ∷ refuses (pos 2) (negsuc 0) 1001 0 23
-    ∷ refuses (negsuc 0) (negsuc 0) 1001 0 21
+    ∷ plainRefuses (pos 0) (pos 0) 1001 0 24
+    ∷ plainRefuses (pos 2) (negsuc 0) 1001 0 23
+    ∷ plainRefuses (negsuc 0) (negsuc 0) 1001 0 21
     -- I to L: fuel, slots and places just enough, and one less of each
     ∷ plays 3 0 4 4 1 (1 ∷ 1 ∷ 1 ∷ 0 ∷ []) 0 0 4 8
     ∷ plays 3 0 3 4 1 (1 ∷ 1 ∷ 1 ∷ 0 ∷ []) 31 0 3 8
@@ -105,4 +105,4 @@ due c =
     }
 
 abbrev pub PlainFurtherHold : Type 0
-PlainFurtherHold = map comesTo further ≡ map due further
+PlainFurtherHold = map comesTo plainFurther ≡ map due plainFurther

@@ -1,13 +1,14 @@
 -- The plain engine's call: what it answers, and every word that it leaves in the table.
 use Prim.Native.Nat.{ℕ, _-_}
-use mathlib.Core.Bool.{cond}
-use mathlib.Core.List.{List, _++_}
-use lib.ListN.{length, take, drop}
+use mathlib.Core.Bool.{Bool}
+use mathlib.Core.List.{List, [], _∷_, _++_}
 use lib.Dec.{ltb}
-use lib.IntN.{ℤ, pos, negsuc}
-use Rattle.engine.specs.declared.Admission.{Admission}
-use Rattle.engine.specs.declared.Admission.the-variants.{Refused as NotLet, Start}
-use Rattle.engine.specs.Run.{admit}
+use lib.IntN.{ℤ, pos}
+use Rattle.lists.specs.Lists.{anyOf}
+use Rattle.refusals.specs.Refusals.{Row, _when_, answer, unlessRefused}
+use Rattle.table.specs.Base.{fromBase}
+use Rattle.table.specs.Slots.{namedSlot}
+use Rattle.engine.specs.Admission.{slotRows}
 use Rattle.plain.specs.declared.Applied.the-variants.{Gave, Halted}
 use Rattle.plain.specs.declared.PlainAnswer.{PlainAnswer}
 use Rattle.plain.specs.declared.PlainAnswer.the-variants.{Refused, Done, Stopped}
@@ -26,23 +27,24 @@ answered fuel (came w (Halted n p)) = played w (Stopped n (fuel - p .left) (p .u
 abbrev pub mostPlain : ℕ
 mostPlain = 1000
 
--- a refusal changes nothing; 49: fuel or job room above 1,000
-unfoldable pub begin : List ℕ → ℕ → ℕ → Admission → Played
-begin w fuel places (NotLet n) = played w (Refused n)
-begin w fuel places (Start s) =
-    cond (ltb mostPlain fuel) (played w (Refused 49))
-    (cond (ltb mostPlain places) (played w (Refused 49))
-    (answered fuel (apply fuel places 0 w (s .f) (s .x) (record { left = fuel; used = s .used }))))
+-- fuel or job room above that
+unfoldable pub tooDeep : ℕ → ℕ → Bool
+tooDeep fuel places = anyOf (ltb mostPlain fuel ∷ ltb mostPlain places ∷ [])
 
--- on the part of the table that is ours; 21, 23 and 24 as the run call has them
+-- what refuses a plain run: 21, 23 and 24 as the run call has them, then 49
+unfoldable pub plainRows : List ℕ → ℤ → ℤ → ℕ → ℕ → ℕ → List Row
+plainRows w f x used fuel places = slotRows w f x used ++ ((49 when tooDeep fuel places) ∷ [])
+
+-- on the part of the table that is ours: a refusal changes nothing
 unfoldable pub plainTail : List ℕ → ℤ → ℤ → ℕ → ℕ → ℕ → Played
-plainTail w f x used fuel places = begin w fuel places (admit w f x used)
+plainTail w f x used fuel places =
+    unlessRefused (answer (plainRows w f x used fuel places)) (λ n. played w (Refused n))
+    (answered fuel (apply fuel places 0 w (namedSlot f) (namedSlot x) (record { left = fuel; used = used })))
 
-abbrev pub after : List ℕ → Played → Played
-after before (played w a) = played (before ++ w) a
+abbrev pub playedWith : List ℕ → Played → Played
+playedWith before (played w a) = played (before ++ w) a
 
 -- 21: base negative or past the end of the table
 unfoldable pub plainRun : List ℕ → ℤ → ℤ → ℤ → ℕ → ℕ → ℕ → Played
-plainRun w (negsuc b) f x used fuel places = played w (Refused 21)
-plainRun w (pos b) f x used fuel places =
-    cond (ltb (length w) b) (played w (Refused 21)) (after (take b w) (plainTail (drop b w) f x used fuel places))
+plainRun w base f x used fuel places =
+    fromBase w base (played w (Refused 21)) (λ before part. playedWith before (plainTail part f x used fuel places))

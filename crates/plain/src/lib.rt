@@ -3,14 +3,15 @@
 ghost use mathlib.Core.Path.{_≡_};
 ghost use mathlib.Core.List.{List};
 ghost use Prim.Native.Nat.{ℕ, _-_, _<_};
+ghost use Rattle.refusals.specs.Refusals.{answer};
 ghost use Rattle.table.specs.Limits.{maxSlots};
 ghost use Rattle.table.specs.Slots.{room, nodeAt, Below};
 ghost use Rattle.plain.specs.Rules.{rule};
 ghost use Rattle.plain.specs.Apply.{came, spend, grow, make, carryOut, apply};
 ghost use Rattle.plain.specs.Fit.{Fit, Able, Ends};
-ghost use Rattle.plain.specs.Run.{played, answered, plainTail, plainRun};
-use engine::Admission;
-use engine::admit;
+ghost use Rattle.plain.specs.Run.{played, answered, tooDeep, plainRows, plainTail, plainRun};
+use engine::admission::slot_refusal;
+use table::base::Base;
 use table::slots::Node;
 use table::slots::Slot;
 use table::slots::node_at;
@@ -188,28 +189,41 @@ fn answered(fuel: u32, end: Applied) -> PlainAnswer
     }
 }
 
+// Whether fuel or places for jobs are more than the stack is for.
+fn too_deep(fuel: u32, places: u32) -> bool
+    ensures { λ r. ⌜ r ≡ tooDeep fuel places ⌝ }
+{
+    if fuel > Progress::MOST {
+        return true;
+    }
+    places > Progress::MOST
+}
+
+// What refuses a plain run, or 0.
+fn refusal(words: &[u32], f: i32, x: i32, used: u32, fuel: u32, places: u32) -> u32
+    ensures { λ r. ⌜ r ≡ answer (plainRows (now (words .entry)) f x used fuel places) ⌝ }
+{
+    let number = slot_refusal(words, f, x, used);
+    if number != 0 {
+        return number;
+    }
+    if too_deep(fuel, places) {
+        return 49;
+    }
+    0
+}
+
 // The plain run on the part of the table that is ours.
 fn plain_tail(words: &mut [u32], f: i32, x: i32, used: u32, fuel: u32, places: u32) -> PlainAnswer
     ensures { λ r. ⌜ played (now (words .exit)) r ≡ plainTail (now (words .entry)) f x used fuel places ⌝ }
 {
-    let admission = admit(words, f, x, used);
-    match admission {
-        Admission::Refused(number) => PlainAnswer::Refused(number),
-        Admission::Start(start) => {
-            if fuel > Progress::MOST {
-                return PlainAnswer::Refused(49);
-            }
-            if places > Progress::MOST {
-                return PlainAnswer::Refused(49);
-            }
-            let p = Progress {
-                left: fuel,
-                used: start.used,
-            };
-            let end = apply(words, start.f, start.x, p, 0, places);
-            answered(fuel, end)
-        }
+    let number = refusal(words, f, x, used, fuel, places);
+    if number != 0 {
+        return PlainAnswer::Refused(number);
     }
+    let p = Progress { left: fuel, used };
+    let end = apply(words, Slot::named(f), Slot::named(x), p, 0, places);
+    answered(fuel, end)
 }
 
 // Applies slot f to slot x of the table that starts at word base, of which `used` slots are used, with an allowance of steps and
@@ -225,12 +239,8 @@ pub fn run(
 ) -> PlainAnswer
     ensures { λ r. ⌜ played (now (words .exit)) r ≡ plainRun (now (words .entry)) base f x used fuel places ⌝ }
 {
-    if base < 0 {
-        return PlainAnswer::Refused(21);
+    match Base::of(base, words.len()) {
+        Base::Outside => PlainAnswer::Refused(21),
+        Base::At(at) => plain_tail(&mut words[at..], f, x, used, fuel, places),
     }
-    let at = base as usize;
-    if words.len() < at {
-        return PlainAnswer::Refused(21);
-    }
-    plain_tail(&mut words[at..], f, x, used, fuel, places)
 }

@@ -7,7 +7,7 @@ use native.Mathlib.Omega.{arith}
 use lib.ListN.{length, drop, length-append}
 use Rattle.sha256.specs.declared.Running.{Running}
 use Rattle.sha256_block.specs.Fips180.{H0, zeros, padding, padded, hash, hashAll, bytesOf, sha256}
-use Rattle.sha256.specs.Running.{pending, inBlock, buffered, fresh, absorbed, absorbedAll, after, finished}
+use Rattle.sha256.specs.Running.{pending, inBlock, buffered, fresh, absorbed, absorbedAll, stateAfter, finishedHash}
 use Rattle.sha256.specs.Running.{PartsJoin, FinishHashes}
 use Rattle.sha256_block.proofs.Blocks.{hash-split}
 use Rattle.sha256.proofs.Buffering.{buffered-split, pending-buffered, pending-length}
@@ -29,25 +29,25 @@ absorbed-join s xs ys l =
     ∙ ap (λ (x : List ℕ). buffered (s .h) x u) (append-assoc (pending s) xs ys)
     ∙ ap (buffered (s .h) (pending s ++ (xs ++ ys))) e
 
-pub absorbed-after : (xs ys : List ℕ) → absorbed (after xs) ys ≡ after (xs ++ ys)
-unfolding after fresh inBlock
+pub absorbed-after : (xs ys : List ℕ) → absorbed (stateAfter xs) ys ≡ stateAfter (xs ++ ys)
+unfolding stateAfter fresh inBlock
 absorbed-after xs ys = absorbed-join fresh xs ys refl
 
 -- a fresh hash has absorbed nothing
-pub fresh-after : fresh ≡ after []
-unfolding after absorbed buffered hash fresh pending inBlock
+pub fresh-after : fresh ≡ stateAfter []
+unfolding stateAfter absorbed buffered hash fresh pending inBlock
 fresh-after = refl
 
 pub parts-join : PartsJoin
 unfolding absorbedAll flatten
-parts-join m [] = ap after (sym (append-nil m))
+parts-join m [] = ap stateAfter (sym (append-nil m))
 parts-join m (p ∷ ps) =
     ap (λ (s : Running). absorbedAll s ps) (absorbed-after m p)
     ∙ parts-join (m ++ p) ps
-    ∙ ap after (append-assoc m p (flatten ps))
+    ∙ ap stateAfter (append-assoc m p (flatten ps))
 
-after-is : (m : List ℕ) → after m ≡ buffered H0 m (length m % 2 ^ 64)
-unfolding after absorbed fresh pending
+after-is : (m : List ℕ) → stateAfter m ≡ buffered H0 m (length m % 2 ^ 64)
+unfolding stateAfter absorbed fresh pending
 after-is m = rw (zero-add (length m))
 
 -- the length counts modulo 2 ^ 64
@@ -59,18 +59,18 @@ padding-wraps n =
     rw (z, l)
 
 pub finished-after : FinishHashes
-unfolding finished sha256 padded buffered
+unfolding finishedHash sha256 padded buffered
 finished-after m =
     let n : ℕ = length m % 2 ^ 64 in
     let v : List ℕ = hashAll H0 m in
-    ap finished (after-is m)
+    ap finishedHash (after-is m)
     ∙ ap (λ (x : List ℕ). bytesOf (hashAll v (x ++ padding n))) (pending-buffered H0 m n (omega arith))
     ∙ ap (λ (x : List ℕ). bytesOf (hashAll v (drop (length m / 64 * 64) m ++ x))) (padding-wraps (length m))
     ∙ ap bytesOf (hash-split (length m / 64) H0 m (padding (length m)) (omega arith))
 
 -- the digest of a message in parts
-pub finished-parts : (parts : List (List ℕ)) → finished (absorbedAll fresh parts) ≡ sha256 (flatten parts)
+pub finished-parts : (parts : List (List ℕ)) → finishedHash (absorbedAll fresh parts) ≡ sha256 (flatten parts)
 finished-parts parts =
-    ap (λ (s : Running). finished (absorbedAll s parts)) fresh-after
-    ∙ ap finished (parts-join [] parts)
+    ap (λ (s : Running). finishedHash (absorbedAll s parts)) fresh-after
+    ∙ ap finishedHash (parts-join [] parts)
     ∙ finished-after (flatten parts)

@@ -1,4 +1,4 @@
--- Bytes put into a block, and zeros behind them.
+-- Bytes put into a block, and zeros after them.
 use Prim.Native.Nat.{ℕ, _+_, _-_, _≤_, _<_}
 use mathlib.Core.Path.{_≡_, sym, ap, _∙_}
 use mathlib.Core.List.{List, [], _∷_, _++_, append-assoc, append-nil}

@@ -1,4 +1,4 @@
--- The cases of finish: the count of bits fits behind what is buffered, or takes a block of its own.
+-- The cases of finish: the count of bits fits after what is buffered, or takes a block of its own.
 use Prim.Native.Nat.{ℕ, _+_, _-_, _*_, _%_, _^_, _≤_, _<_}
 use mathlib.Core.Path.{_≡_, sym, ap, _∙_}
 use mathlib.Core.List.{List, [], _∷_, _++_, append-assoc}
@@ -7,12 +7,12 @@ use lib.ListN.{length, take, replicate, length-append, length-take, length-repli
 use lib.Seq.{paste, append-snoc}
 use Rattle.sha256.specs.declared.Running.{Running}
 use Rattle.sha256_block.specs.Fips180.{zeros, lengthBytes, padding, compress, hashAll, bytesOf}
-use Rattle.sha256.specs.Running.{pending, inBlock, finished}
+use Rattle.sha256.specs.Running.{pending, inBlock, finishedHash}
 use Rattle.sha256_block.proofs.Blocks.{hash-first, hash-one}
 use Rattle.sha256.proofs.Filling.{block-length, paste-last}
 use Rattle.sha256_block.proofs.Padding.{length-of-length}
 
--- what is buffered, with the first byte of padding behind it
+-- what is buffered, with the first byte of padding after it
 begun : Running → List ℕ
 begun s = take (s .total % 64) (s .block) ++ (0x80 ∷ [])
 
@@ -35,8 +35,8 @@ module _ (s : Running) (l : length (s .block) ≡ 64) (size marked : List ℕ)
   size-length = ap length e ∙ length-of-length (s .total * 8 % 2 ^ 64)
 
   pub finish-one : (last v r : List ℕ) → s .total % 64 < 56 → last ≡ paste marked 56 size (length size)
-      → v ≡ compress (s .h) last → r ≡ bytesOf v → r ≡ finished s
-  unfolding finished
+      → v ≡ compress (s .h) last → r ≡ bytesOf v → r ≡ finishedHash s
+  unfolding finishedHash
   finish-one last v r h a b c =
       let n : zeros (s .total) ≡ 56 - length (begun s) = omega (arith, begun-length) in
       let w : last ≡ begun s ++ replicate (56 - length (begun s)) 0 ++ size
@@ -53,8 +53,8 @@ module _ (s : Running) (l : length (s .block) ≡ 64) (size marked : List ℕ)
       c ∙ ap bytesOf (b ∙ sym (hash-one (s .h) last z) ∙ ap (hashAll (s .h)) (sym m))
 
   pub finish-two : (first last v r : List ℕ) → 56 ≤ s .total % 64 → first ≡ compress (s .h) marked
-      → last ≡ paste (replicate 64 0) 56 size (length size) → v ≡ compress first last → r ≡ bytesOf v → r ≡ finished s
-  unfolding finished inBlock
+      → last ≡ paste (replicate 64 0) 56 size (length size) → v ≡ compress first last → r ≡ bytesOf v → r ≡ finishedHash s
+  unfolding finishedHash inBlock
   finish-two first last v r h a b c d =
       let g : ℕ = 64 - length (begun s) in
       let n : zeros (s .total) ≡ g + 56 = omega (arith, begun-length) in

@@ -10,11 +10,11 @@ use Rattle.sha256_block.specs.Fips180.{H0, padding, hashAll, bytesOf, sha256}
 unfoldable pub pending : Running → List ℕ
 pending s = take (s .total % 64) (s .block)
 
--- bytes in the first places of a block, and zeros behind them
+-- bytes in the first places of a block, and zeros after them
 unfoldable pub inBlock : List ℕ → List ℕ
 inBlock xs = xs ++ replicate (64 - length xs) 0
 
--- the whole blocks of m are hashed, and the bytes behind them are buffered
+-- the whole blocks of m are hashed, and the bytes after them are buffered
 unfoldable pub buffered : List ℕ → List ℕ → ℕ → Running
 buffered v m total = record { h = hashAll v m; block = inBlock (drop (length m / 64 * 64) m); total = total }
 
@@ -32,17 +32,17 @@ absorbedAll s [] = s
 absorbedAll s (part ∷ parts) = absorbedAll (absorbed s part) parts
 
 -- after the message m from the start
-unfoldable pub after : List ℕ → Running
-after m = absorbed fresh m
+unfoldable pub stateAfter : List ℕ → Running
+stateAfter m = absorbed fresh m
 
--- the digest: the padding goes behind what is buffered
-unfoldable pub finished : Running → List ℕ
-finished s = bytesOf (hashAll (s .h) (pending s ++ padding (s .total)))
+-- the digest: the padding goes after what is buffered
+unfoldable pub finishedHash : Running → List ℕ
+finishedHash s = bytesOf (hashAll (s .h) (pending s ++ padding (s .total)))
 
 -- For clients, over lists of bytes. Absorbing parts one after the other is absorbing their join
 abbrev pub PartsJoin : Type 0
-PartsJoin = (m : List ℕ) (parts : List (List ℕ)) → absorbedAll (after m) parts ≡ after (m ++ flatten parts)
+PartsJoin = (m : List ℕ) (parts : List (List ℕ)) → absorbedAll (stateAfter m) parts ≡ stateAfter (m ++ flatten parts)
 
 -- finishing gives SHA-256 of all that was absorbed
 abbrev pub FinishHashes : Type 0
-FinishHashes = (m : List ℕ) → finished (after m) ≡ sha256 m
+FinishHashes = (m : List ℕ) → finishedHash (stateAfter m) ≡ sha256 m

@@ -5,10 +5,10 @@ ghost use Prim.Native.Nat.{_+_, _-_, _≤_};
 ghost use lib.ListN.{length, take, replicate};
 ghost use lib.Seq.{paste};
 ghost use Rattle.sha256_block.specs.Fips180.{sha256};
-ghost use Rattle.sha256.specs.Running.{inBlock, buffered, fresh, absorbed, finished};
+ghost use Rattle.sha256.specs.Running.{inBlock, buffered, fresh, absorbed, finishedHash};
 
 // A hash of the bytes so far: the hash value after their whole blocks, the bytes since in the first places of the
-// block with zeros behind them, and the count of bytes, modulo 2^64.
+// block with zeros after them, and the count of bytes, modulo 2^64.
 pub struct Running {
     h: [u32; 8],
     block: [u8; 64],
@@ -43,7 +43,7 @@ fn clear(block: [u8; 64], at: usize) -> [u8; 64]
     out
 }
 
-// The first bytes of a block, a part behind them, and then zeros.
+// The first bytes of a block, a part after them, and then zeros.
 fn in_block(block: [u8; 64], at: usize, part: &[u8]) -> [u8; 64]
     requires { ⌜ at + length (now part) ≤ 64 ⌝ }
     ensures { λ r. ⌜ r ≡ inBlock (take at block ++ now (part .entry)) ⌝ }
@@ -51,7 +51,7 @@ fn in_block(block: [u8; 64], at: usize, part: &[u8]) -> [u8; 64]
     clear(store(block, at, part), at + part.len())
 }
 
-// The whole blocks of m are hashed, and the bytes behind them are buffered.
+// The whole blocks of m are hashed, and the bytes after them are buffered.
 fn buffered(v: [u32; 8], m: &[u8], total: u64) -> Running
     ensures { λ r. ⌜ r ≡ buffered v (now (m .entry)) total ⌝ }
 {
@@ -106,7 +106,7 @@ impl Running {
 
     // The digest, after the padding.
     pub fn finish(self) -> [u8; 32]
-        ensures { λ r. ⌜ r ≡ finished self ⌝ }
+        ensures { λ r. ⌜ r ≡ finishedHash self ⌝ }
     {
         let at = (self.total % 64) as usize;
         let size = sha256_block::length_bytes(self.total << 3);

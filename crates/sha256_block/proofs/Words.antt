@@ -50,7 +50,7 @@ mixed-next m w t v h e = simp (le-ltb _ _ h) e
 back : (t n : ℕ) → t + 1 - (n + 1) ≡ t - n
 back t n = omega arith
 
--- the word behind it, from the same t
+-- the word after it, from the same t
 mixed-after : (m w : List ℕ) (t v : ℕ) → 16 ≤ t
     → v ≡ mixed (getD w (t - 1) 0) (getD w (t - 6) 0) (getD w (t - 14) 0) (getD w (t - 15) 0) → v ≡ nextWord m (t + 1) w
 mixed-after m w t v h e = mixed-next m w (t + 1) v (omega arith) (rw (back t 1, back t 6, back t 14, back t 15) e)

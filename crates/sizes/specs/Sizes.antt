@@ -15,9 +15,12 @@ fileSize = record { least = 32; most = 65536 }
 abbrev pub sectionsSize : Size
 sectionsSize = record { least = 1; most = 16 }
 
--- as shape, any count that a u32 holds; none may be listed
 abbrev pub capabilitiesSize : Size
-capabilitiesSize = record { least = 0; most = 4294967295 }
+capabilitiesSize = record { least = 0; most = 0 }
+
+-- what the shape of a count allows where no size is asked: as much as a u32 holds
+abbrev pub anyCount : Size
+anyCount = record { least = 0; most = 4294967295 }
 
 abbrev pub rootsSize : Size
 rootsSize = record { least = 1; most = 16 }
@@ -35,3 +38,7 @@ nameSize = record { least = 1; most = 64 }
 
 abbrev pub nodesSize : Size
 nodesSize = record { least = 1; most = 512 }
+
+-- bytes of a hash
+abbrev pub hashBytes : ℕ
+hashBytes = 32

@@ -8,6 +8,9 @@ pub struct Size {
     pub most: u64,
 }
 
+// Bytes of a hash.
+pub const HASH: usize = 32;
+
 impl Size {
     // Bytes of a file; the least is a header's.
     pub const FILE: Size = Size {
@@ -17,8 +20,10 @@ impl Size {
 
     pub const SECTIONS: Size = Size { least: 1, most: 16 };
 
-    // As shape, any count that a u32 holds; none may be listed.
-    pub const CAPABILITIES: Size = Size {
+    pub const CAPABILITIES: Size = Size { least: 0, most: 0 };
+
+    // What the shape of a count allows where no size is asked: as much as a u32 holds.
+    pub const ANY_COUNT: Size = Size {
         least: 0,
         most: 4294967295,
     };

@@ -7,26 +7,21 @@ use native.Mathlib.Omega.{arith}
 use native.Mathlib.Decide.{ℕ-discrete}
 use borrow.Author.Tests.{ne-eqb}
 use lib.ListN.{length, getD}
-use Rattle.wire.specs.Wire.{indexOf}
-use Rattle.wire.specs.Relations.{Distinct}
-use Rattle.wire.specs.declared.Found.{Found}
-use Rattle.wire.specs.declared.Found.the-variants.{Index as FoundAt, Nothing}
-use Rattle.wire.proofs.Index.{index-among, distinct-index, index-is, index-none}
+use Rattle.lists.specs.Lists.{indexOf}
+use Rattle.lists.specs.Among.{Distinct}
+use Rattle.lists.specs.declared.Found.{Found}
+use Rattle.lists.specs.declared.Found.the-variants.{Index as FoundAt, Nothing}
+use Rattle.lists.proofs.Index.{index-among, distinct-index, index-is, index-none}
 use Rattle.wire.proofs.Spans.{span-none}
 use Rattle.manifest_shape.specs.declared.parts.Parsed.{Parsed}
 use Rattle.manifest_shape.specs.declared.parts.Parsed.the-variants.{To, Bad}
-use Rattle.manifest.specs.Content.{Export, textAt, names}
+use Rattle.manifest.specs.Content.{textAt, names}
 use Rattle.manifest.specs.Judged.{exportsOf, exportPlace, exportIndex}
 use Rattle.manifest.proofs.Places.{place-name}
-use Rattle.bundle.specs.Directory.{manifestSection}
+use Rattle.container.specs.Directory.{manifestSection}
 use Rattle.bundle.specs.Checks.{nameRefusal}
-use Rattle.bundle.specs.Exports.{nameAt, namePart, nameCall, indexAsked, answerOf, indexCall}
+use Rattle.bundle.specs.Exports.{nameAt, namePart, nameCall, indexAsked, indexAnswer, indexCall}
 use Rattle.bundle.proofs.NameParts.{name-inside, name-bytes}
-
-pub names-length : (es : List Export) → length (names es) ≡ length es
-unfolding names
-names-length [] = refl
-names-length (e ∷ es) = rw (names-length es)
 
 -- of byte strings that are all different, each is found where it stands
 pub found-there : (xs : List (List ℕ)) (i : ℕ) → Distinct xs → i < length xs → indexOf (getD xs i []) 0 xs ≡ FoundAt i
@@ -47,10 +42,10 @@ module _ (file : List ℕ) (fine : nameRefusal file ≡ 0) where
       m = manifestSection file
 
       go : (p : Parsed) → exportPlace m i ≡ p → nameCall file i ≡ getD (names (exportsOf m)) i []
-      go (To at) f = rw (fine, f) (sym (name-bytes file refl fine i f) ∙ sym (place-name m i ∙ ap (textAt m) f))
+      go (To at) f = rw (fine, f) (sym (name-bytes file fine i f) ∙ sym (place-name m i ∙ ap (textAt m) f))
       go Bad f = rw (fine, f) (span-none file ∙ sym (place-name m i ∙ ap (textAt m) f))
 
-  pub index-asked : (name : List ℕ) → indexCall file name ≡ answerOf (indexAsked (manifestSection file) name)
+  pub index-asked : (name : List ℕ) → indexCall file name ≡ indexAnswer (indexAsked (manifestSection file) name)
   unfolding indexCall
   index-asked name = rw fine
 
@@ -70,5 +65,5 @@ part-inside file i = elim (ℕ-discrete (nameRefusal file) 0) [
   where
     go : nameRefusal file ≡ 0 → (p : Parsed) → exportPlace (manifestSection file) i ≡ p →
         namePart file i .start + namePart file i .size ≤ length file
-    go fine (To at) f = rw (fine, f) (name-inside file refl fine i f)
+    go fine (To at) f = rw (fine, f) (name-inside file fine i f)
     go fine Bad f = rw (fine, f) (omega arith)

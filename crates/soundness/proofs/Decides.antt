@@ -6,10 +6,10 @@ use mathlib.Core.Bool.{Bool, true, false}
 use mathlib.Core.Logic.{_↔_, _⊎_, inl, inr, ⊎-elim}
 use native.Mathlib.Omega.{arith}
 use native.Mathlib.Decide.{decLe, map-dec}
-use Rattle.wire.specs.Wire.{sameBytes, indexOf, found}
-use Rattle.wire.specs.Relations.{Among, here, there}
-use Rattle.wire.proofs.Bytes.{not-both, same-exactly}
-use Rattle.wire.proofs.Index.{found-exactly}
+use Rattle.lists.specs.Lists.{sameBytes, indexOf, found}
+use Rattle.lists.specs.Among.{Among, here, there}
+use Rattle.lists.proofs.Same.{not-both, same-exactly}
+use Rattle.lists.proofs.Index.{found-exactly}
 
 -- a test decides what it means
 pub dec-true : {A : Type 0} (b : Bool) → (b ≡ true) ↔ A → Dec A

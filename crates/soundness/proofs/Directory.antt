@@ -10,21 +10,21 @@ use borrow.Author.Tests.{eqb-true, eqb-false, eq-eqb, ne-eqb}
 use lib.Dec.{ltb, eqb}
 use lib.ListN.{length}
 use Rattle.wire.specs.Wire.{span, ascii}
-use Rattle.wire.specs.Relations.{Among}
-use Rattle.wire.proofs.Bytes.{not-both, same-exactly}
+use Rattle.lists.specs.Among.{Among}
+use Rattle.lists.proofs.Same.{not-both, same-exactly}
 use Rattle.wire.proofs.Spans.{span-in}
-use Rattle.wire.proofs.Some.{any-none, any-more, none-exactly}
-use Rattle.wire.proofs.Tests.{below-exactly, equal-exactly, not-exactly, where-exactly, unless-exactly}
+use Rattle.lists.proofs.Some.{any-none, any-more, none-exactly}
+use Rattle.lists.proofs.Tests.{below-exactly, equal-exactly, not-exactly, where-exactly, unless-exactly}
 use Rattle.sha256_block.specs.Fips180.{sha256}
 use Rattle.sizes.specs.Sizes.{fileSize, sectionsSize}
-use Rattle.bundle.specs.declared.directory.Entry.{Entry as Read}
-use Rattle.bundle.specs.declared.directory.Fault.{Fault}
-use Rattle.bundle.specs.declared.directory.Fault.the-variants.{Critical, Coded, Outside, Altered}
-use Rattle.bundle.specs.Header.{sectionCount, directoryOffset, otherMagic, otherMajor, noDirectory}
-use Rattle.bundle.specs.Directory.{entryAt, entries, known, sectionOf, digestOf, faulty, someFaulty}
-use Rattle.bundle.specs.Directory.{critical, coded, outside, altered}
-use Rattle.bundle.specs.Directory.{occurrences, repeated, missing}
-use Rattle.bundle.proofs.HeaderLaws.{magic-exactly, directory-exactly}
+use Rattle.container.specs.declared.directory.DirectoryEntry.{DirectoryEntry as Read}
+use Rattle.container.specs.Directory.{EntryFault}
+use Rattle.container.specs.Directory.{Critical, Coded, Outside, Altered}
+use Rattle.container.specs.Header.{sectionCount, directoryOffset, otherMagic, otherMajor, noDirectory}
+use Rattle.container.specs.Directory.{entryAt, entries, known, sectionOf, digestOf, entryFaulty, someEntry}
+use Rattle.container.specs.Directory.{critical, coded, outside, altered}
+use Rattle.container.specs.Directory.{occurrences, repeated, missing}
+use Rattle.container.proofs.HeaderLaws.{magic-exactly, directory-exactly}
 use Rattle.soundness.specs.FileGrammar.{Header, Entry, Known, Occurs, OccursAgain}
 use Rattle.soundness.proofs.FileFormat.{readHeader, readEntry, readDirectory}
 use Rattle.soundness.proofs.Decides.{dec-either}
@@ -90,63 +90,63 @@ dec-known e = dec-either (ℕ-discrete (e .kind) 1) (ℕ-discrete (e .kind) 2)
 
 module _ (file : List ℕ) where
   -- one entry does not have a fault
-  optional-exactly : (e : Read) → (faulty file Critical e ≡ false) ↔ (known (e .kind) ≡ false → e .flags % 2 ≡ 0)
-  unfolding faulty critical
+  optional-exactly : (e : Read) → (entryFaulty file Critical e ≡ false) ↔ (known (e .kind) ≡ false → e .flags % 2 ≡ 0)
+  unfolding entryFaulty critical
   optional-exactly e =
       let even : (eqb (e .flags % 2) 1 ≡ false) ↔ (e .flags % 2 ≡ 0) =
       (λ q. omega (arith, eqb-false (e .flags % 2) 1 q), λ z. ne-eqb (e .flags % 2) 1 (omega arith)) in
       unless-exactly _ even (known (e .kind))
 
-  plain-exactly : (e : Read) → (faulty file Coded e ≡ false) ↔ ((e .compression ≡ 0) × (e .algorithm ≡ 1))
-  unfolding faulty coded
+  plain-exactly : (e : Read) → (entryFaulty file Coded e ≡ false) ↔ ((e .compression ≡ 0) × (e .algorithm ≡ 1))
+  unfolding entryFaulty coded
   plain-exactly e =
       let tests =
       any-more _ (not-exactly _ (equal-exactly (e .compression) 0))
       (any-more _ (not-exactly _ (equal-exactly (e .algorithm) 1)) any-none) in
       (λ q. let (c, (a, _)) = tests .0 q in (c, a), λ h. tests .1 (h .0, (h .1, tt)))
 
-  inside-exactly : (e : Read) → (faulty file Outside e ≡ false) ↔ (e .offset + e .size ≤ length file)
-  unfolding faulty outside
+  inside-exactly : (e : Read) → (entryFaulty file Outside e ≡ false) ↔ (e .offset + e .size ≤ length file)
+  unfolding entryFaulty outside
   inside-exactly e = below-exactly (length file) (e .offset + e .size)
 
   digest-exactly : (e : Read) →
-      (faulty file Altered e ≡ false) ↔ (known (e .kind) ≡ true → sha256 (sectionOf file e) ≡ digestOf file e)
-  unfolding faulty altered
+      (entryFaulty file Altered e ≡ false) ↔ (known (e .kind) ≡ true → sha256 (sectionOf file e) ≡ digestOf file e)
+  unfolding entryFaulty altered
   digest-exactly e =
       where-exactly _ (not-exactly _ (same-exactly (sha256 (sectionOf file e)) (digestOf file e))) (known (e .kind))
 
   -- none of some entries has it
-  none-faulty : (fault : Fault) (Fine : Read → Type 0) → ((e : Read) → (faulty file fault e ≡ false) ↔ Fine e) →
-      (es : List Read) → (someFaulty file fault es ≡ false) ↔ ((e : Read) → Among e es → Fine e)
-  unfolding someFaulty
-  none-faulty fault Fine fine es = none-exactly (λ e rest. faulty file fault e) Fine (λ e rest. fine e) es
+  none-faulty : (fault : EntryFault) (Fine : Read → Type 0) → ((e : Read) → (entryFaulty file fault e ≡ false) ↔ Fine e) →
+      (es : List Read) → (someEntry file fault es ≡ false) ↔ ((e : Read) → Among e es → Fine e)
+  unfolding someEntry
+  none-faulty fault Fine fine es = none-exactly (λ e rest. entryFaulty file fault e) Fine (λ e rest. fine e) es
 
   -- each entry is fine
   abbrev pub All : (Entry → Type 0) → Type 0
   All P = (e : Entry) → Among e (readDirectory file) → P e
 
-  pub optional-fine : (someFaulty file Critical (entries file) ≡ false) ↔ All Optional
+  pub optional-fine : (someEntry file Critical (entries file) ≡ false) ↔ All Optional
   unfolding entryAt readEntry
   optional-fine = Iff·trans (none-faulty Critical _ optional-exactly (entries file)) (each-mirrored file _ _ same)
     where
       same : (p : ℕ) → (known (entryAt file p .kind) ≡ false → entryAt file p .flags % 2 ≡ 0) ↔ Optional (readEntry file p)
       same p = (λ f n. f (known-false _ .1 n), λ f e. f (known-false _ .0 e))
 
-  pub plain-fine : (someFaulty file Coded (entries file) ≡ false) ↔ All Plain
+  pub plain-fine : (someEntry file Coded (entries file) ≡ false) ↔ All Plain
   unfolding entryAt readEntry
   plain-fine = Iff·trans (none-faulty Coded _ plain-exactly (entries file)) (each-mirrored file _ _ same)
     where
       same : (p : ℕ) → ((entryAt file p .compression ≡ 0) × (entryAt file p .algorithm ≡ 1)) ↔ Plain (readEntry file p)
       same p = (λ f. f, λ f. f)
 
-  pub inside-fine : (someFaulty file Outside (entries file) ≡ false) ↔ All (Inside file)
+  pub inside-fine : (someEntry file Outside (entries file) ≡ false) ↔ All (Inside file)
   unfolding entryAt readEntry
   inside-fine = Iff·trans (none-faulty Outside _ inside-exactly (entries file)) (each-mirrored file _ _ same)
     where
       same : (p : ℕ) → (entryAt file p .offset + entryAt file p .size ≤ length file) ↔ Inside file (readEntry file p)
       same p = (λ f. f, λ f. f)
 
-  pub digest-fine : (someFaulty file Altered (entries file) ≡ false) ↔ All (Digested file)
+  pub digest-fine : (someEntry file Altered (entries file) ≡ false) ↔ All (Digested file)
   unfolding entryAt readEntry
   digest-fine = Iff·trans (none-faulty Altered _ digest-exactly (entries file)) (each-mirrored file _ _ same)
     where

@@ -3,7 +3,7 @@ use Prim.Native.Nat.{ℕ}
 use mathlib.Core.Path.{_≡_, subst}
 use mathlib.Core.List.{List, [], _∷_}
 use mathlib.Core.Logic.{_↔_}
-use Rattle.wire.specs.Relations.{Among, here, there}
+use Rattle.lists.specs.Among.{Among, here, there}
 
 -- `all xs` are the byte strings `one x` of the things in xs
 module _ {A : Type 0} (one : A → List ℕ) (all : List A → List (List ℕ)) (none : all [] ≡ [])

@@ -7,21 +7,23 @@ use native.Mathlib.Omega.{arith}
 use native.Mathlib.Decide.{ℕ-discrete, decLt}
 use borrow.Author.Tests.{ne-eqb}
 use lib.ListN.{length, getD, length-append}
-use Rattle.wire.specs.Wire.{indexOf}
-use Rattle.wire.specs.Relations.{Number, Among}
-use Rattle.wire.specs.declared.Found.{Found}
-use Rattle.wire.specs.declared.Found.the-variants.{Index as FoundAt, Nothing}
-use Rattle.wire.proofs.Index.{index-among, index-is, index-none, found-not, apart-unfound}
+use Rattle.lists.specs.Lists.{indexOf}
+use Rattle.wire.specs.Relations.{Number}
+use Rattle.lists.specs.Among.{Among}
+use Rattle.lists.specs.declared.Found.{Found}
+use Rattle.lists.specs.declared.Found.the-variants.{Index as FoundAt, Nothing}
+use Rattle.lists.proofs.Index.{index-among, index-is, index-none, found-not, apart-unfound}
 use Rattle.wire.proofs.Spans.{span-none}
 use Rattle.manifest_shape.specs.declared.parts.Parsed.the-variants.{To}
 use Rattle.manifest.specs.Content.{textAt, names}
 use Rattle.manifest.specs.Judged.{exportsOf}
 use Rattle.manifest.proofs.Places.{place-name}
-use Rattle.bundle.specs.declared.exports.Part.{Part}
+use Rattle.manifest.proofs.Names.{names-length}
+use Rattle.wire.specs.declared.Part.{Part}
 use Rattle.bundle.specs.declared.exports.IndexAnswer.the-variants.{Refused}
-use Rattle.bundle.specs.Directory.{manifestSection}
+use Rattle.container.specs.Directory.{manifestSection}
 use Rattle.bundle.specs.Checks.{nameRefusal}
-use Rattle.bundle.specs.Exports.{nameAt, namePart, nameCall, indexAsked, indexCall, answerOf, numbers}
+use Rattle.bundle.specs.Exports.{nameAt, namePart, nameCall, indexAsked, indexCall, indexAnswer, indexNumbers}
 use Rattle.soundness.specs.FileGrammar.{SectionOf}
 use Rattle.soundness.specs.ManifestGrammar.{Contents, IsManifest, manifest, counted}
 use Rattle.soundness.specs.Sound.{Described}
@@ -35,7 +37,7 @@ use Rattle.soundness.proofs.ManifestMeaning.{reads-exports}
 use Rattle.soundness.proofs.Applies.{name-number-exactly, name-none-exactly}
 use Rattle.soundness.proofs.Each.{each-exactly}
 use Rattle.soundness.proofs.Sections.{section-only, section-start, single-manifest, described-manifest}
-use Rattle.soundness.proofs.Calls.{names-length, found-there, name-read, part-inside, index-asked, asked-name}
+use Rattle.soundness.proofs.Calls.{found-there, name-read, part-inside, index-asked, asked-name}
 use Rattle.soundness.proofs.ExportPlaces.{Stands, stands, stands-none}
 use Rattle.soundness.proofs.Meaning.{unrefused-described}
 
@@ -136,7 +138,7 @@ only-name call by-index refused file i = elim (ℕ-discrete (nameRefusal file) 0
 module _ (file : List ℕ) (d : Described file) where
   -- what a name that is not empty is answered
   asked : {name : List ℕ} {f : Found} → (name ≡ [] → ⊥) → indexOf name 0 (names (d .manifest .exports)) ≡ f →
-      indexCall file name ≡ answerOf f
+      indexCall file name ≡ indexAnswer f
   asked {name} h e = rw (index-asked file (fine file d) name, asked-name (manifestSection file) name h, read file d, e)
 
   no-empty-name : (name : List ℕ) → Among name (names (d .manifest .exports)) → name ≡ [] → ⊥
@@ -150,16 +152,16 @@ index-by-name file d i h =
     let ns = names (d .manifest .exports) in
     let l : i < length ns = rw names-length h in
     let e = found-there ns i (d .named .distinct) l in
-    ap numbers (asked file d (no-empty-name file d (getD ns i []) (index-among [] ns i l)) e)
+    ap indexNumbers (asked file d (no-empty-name file d (getD ns i []) (index-among [] ns i l)) e)
 
 pub no-such-name : NoSuchName index
 no-such-name file d name h n =
     let ns = names (d .manifest .exports) in
-    ap numbers (asked file d h (found-not (indexOf name 0 ns) (apart-unfound name 0 ns n)))
+    ap indexNumbers (asked file d h (found-not (indexOf name 0 ns) (apart-unfound name 0 ns n)))
 
 pub empty-name : EmptyName index
 unfolding indexAsked
-empty-name file d = ap numbers (index-asked file (fine file d) [])
+empty-name file d = ap indexNumbers (index-asked file (fine file d) [])
 
 pub index-refused : IndexRefused index
 unfolding indexCall
@@ -209,7 +211,7 @@ index-within file d (b ∷ bs) =
     ns : List (List ℕ)
     ns = names (d .manifest .exports)
 
-    found : (f : Found) → indexOf (b ∷ bs) 0 ns ≡ f → numbers (answerOf f) .index < length (d .manifest .exports)
+    found : (f : Found) → indexOf (b ∷ bs) 0 ns ≡ f → indexNumbers (indexAnswer f) .index < length (d .manifest .exports)
     found (FoundAt k) e = omega (arith, index-is (b ∷ bs) 0 ns k e .1, names-length (d .manifest .exports))
     found Nothing e = some-exports (d .is-manifest)
 
@@ -233,6 +235,6 @@ index-tells file name n e = elim (ℕ-discrete (nameRefusal file) 0) [
       omega (arith, z, q)
 ]
   where
-    go : (f : Found) → answerOf f ≡ Refused n → 0 < n
+    go : (f : Found) → indexAnswer f ≡ Refused n → 0 < n
     go (FoundAt i) q = let z : _≡_ {A = ℕ} 0 1 = cc in absurd (omega arith)
     go Nothing q = let z : 25 ≡ n = cc in omega arith

@@ -1,5 +1,5 @@
 -- Where an export stands in a manifest: after its head, the count of its exports, and the exports before it.
-use Prim.Native.Nat.{ℕ, _≤_, _<_}
+use Prim.Native.Nat.{ℕ, _+_, _≤_, _<_}
 use mathlib.Core.Path.{_≡_, ap, subst, _∙_}
 use mathlib.Core.List.{List, _++_, append-assoc}
 use native.Mathlib.Omega.{arith}
@@ -13,15 +13,17 @@ use Rattle.manifest_shape.specs.declared.parts.Kind.the-variants.{Export}
 use Rattle.manifest_shape.specs.declared.Layout.{Layout}
 use Rattle.manifest_shape.specs.declared.Manifest.the-variants.{Shape}
 use Rattle.manifest_shape.specs.Shape.{sizedEnd, stringEnd, exportEnd, itemEnd, manifestOf}
-use Rattle.manifest.specs.Content.{Export as Exported, textAt, countAt, exportsAt, placesAt}
+use Rattle.manifest.specs.Content.{Export as Exported, textAt, exportAt, countAt, exportsAt, placesAt}
 use Rattle.manifest.specs.Judged.{exportPlace}
 use Rattle.manifest.proofs.Lists.{list-past}
 use Rattle.soundness.specs.ManifestGrammar.{Contents, IsExport, IsManifest}
 use Rattle.soundness.specs.ExportCalls.{BeforeExport, before-export}
-use Rattle.soundness.proofs.ManifestParses.{then-to}
-use Rattle.soundness.proofs.ManifestPieces.{string-past, export-past, sized-reads}
-use Rattle.soundness.proofs.ManifestCounted.{counted-number, items-forth, item-at, export-kind}
-use Rattle.soundness.proofs.ManifestWhole.{Laid, contentsAt, shape-laid, head-reads, whole-back}
+use Rattle.manifest_shape.proofs.Ends.{then-to, string-past, counted-number}
+use Rattle.manifest_shape.proofs.Laid.{Laid, shape-laid}
+use Rattle.manifest.proofs.Counted.{export-past, items-length}
+use Rattle.soundness.proofs.ManifestPieces.{sized-reads}
+use Rattle.soundness.proofs.ManifestCounted.{items-forth, item-at, export-kind}
+use Rattle.soundness.proofs.ManifestWhole.{contentsAt, head-reads, whole-back}
 
 -- the position of an export, the bytes before it, those of its name's length, and those after its name
 pub record Stands (s : List ℕ) (m : Contents) (i : ℕ) : Type 0 where
@@ -61,9 +63,9 @@ module _ {s : List ℕ} {l : Layout} (g : manifestOf s ≡ Shape l) {metadata ex
       let (b, r, is-head) = head-reads t in
       counted-number s Export exportsSize (l .exports) (t .exports) λ n k least most ends.
       let (c, u, m) = number-reads s (l .exports) 4 k in
-      let (_, _, _, q) = items-forth s Export _ _ _ (export-past s) (export-kind s) n (u .fits) ends in
+      let q = items-length s Export _ (exportAt s) (export-past s) n (l .exports + 4) ends in
       let (at, _, f, x, y, z) = item-at s Export _ _ _ (export-past s) (export-kind s) n i _ (rw (k, q) at h) ends in
-      let (earlier, v, j, _) = items-forth s Export _ _ _ (export-past s) (export-kind s) i (u .fits) f in
+      let (earlier, v, j) = items-forth s Export _ _ _ (export-past s) (export-kind s) i (u .fits) f in
       then-to (stringEnd s at) _ x λ past name-ends _.
       let front : Sequence IsExport (take i (exportsAt s (l .exports))) earlier =
       subst (λ (xs : List Exported). Sequence IsExport xs earlier) (rw k z) j in
@@ -74,7 +76,7 @@ module _ {s : List ℕ} {l : Layout} (g : manifestOf s ≡ Shape l) {metadata ex
   unfolding exportPlace placesAt exportsAt itemEnd
   place-none i h =
       counted-number s Export exportsSize (l .exports) (t .exports) λ n k least most ends.
-      let (_, _, _, q) = items-forth s Export _ _ _ (export-past s) (export-kind s) n (number-reads s (l .exports) 4 k .1 .fits) ends in
+      let q = items-length s Export _ (exportAt s) (export-past s) n (l .exports + 4) ends in
       rw (g, k) (list-past _ _ Bad n _ i (rw (k, q) at h))
 
 module _ {s : List ℕ} {m : Contents} (is : IsManifest m s) (i : ℕ) where

@@ -1,34 +1,30 @@
 -- None of 1 to 14 holds exactly for a described file, and none of 1 to 20 exactly for a sound one: row by row.
 use Prim.Native.Nat.{ℕ, _≤_}
 use mathlib.Core.Path.{_≡_, refl, sym, ap, subst, _∙_}
-use mathlib.Core.List.{List, _++_}
-use mathlib.Core.Bool.{Bool, true, false}
-use mathlib.Core.Logic.{_↔_}
+use mathlib.Core.List.{List}
+use mathlib.Core.Bool.{Bool, true, false, not}
 use native.Mathlib.Omega.{arith}
 use borrow.Author.Tests.{not-false}
 use lib.ListN.{length}
 use Rattle.wire.specs.Wire.{span}
-use Rattle.wire.specs.Relations.{Among}
-use Rattle.wire.proofs.Bytes.{not-both}
+use Rattle.lists.specs.Among.{Among}
+use Rattle.lists.proofs.Same.{not-both}
 use Rattle.sha256_block.specs.Fips180.{sha256}
 use Rattle.sizes.specs.Sizes.{fileSize}
 use Rattle.soundness.proofs.ManifestMeaning.{shaped-exactly, supported-exactly, named-exactly, reads-roots, reads-exports}
 use Rattle.nodes.specs.Links.{circular}
-use Rattle.soundness.proofs.NodesMeaning.{shaped-exactly as nodes-exactly, reads-nodes, hashed-exactly, distinct-exactly}
-use Rattle.soundness.proofs.NodesMeaning.{closed-exactly, circular-exactly}
-use Rattle.bundle.specs.Directory.{manifestSection, nodesSection}
-use Rattle.bundle.specs.Checks.{headerChecks, directoryChecks, manifestChecks, nodeChecks, nameChecks, checks}
+use Rattle.soundness.proofs.NodesMeaning.{shaped-exactly as nodes-exactly, reads-nodes, hashed-exactly, distinct-exactly, closed-exactly, circular-exactly}
+use Rattle.container.specs.Directory.{manifestSection, nodesSection}
+use Rattle.bundle.specs.Checks.{manifestChecks, nodeChecks, nameChecks, checks}
+use Rattle.container.specs.Checks.{headerChecks, directoryChecks, containerChecks}
 use Rattle.soundness.specs.FileGrammar.{Header, Entry, Occurs}
 use Rattle.soundness.specs.Sound.{SoundEntry, Described, Sound}
-use Rattle.bundle.proofs.Rows.{Clear, clear-parts}
-use Rattle.bundle.proofs.HeaderLaws.{most-exactly, least-exactly}
-use Rattle.soundness.proofs.FileFormat.{readHeader, readDirectory, one-directory, has-directory, of-directory}
-use Rattle.soundness.proofs.FileFormat.{one-section, has-section}
-use Rattle.soundness.proofs.Directory.{Directory, magic-fine, major-fine, directory-fine}
-use Rattle.soundness.proofs.Directory.{Optional, Plain, Inside, Digested, All}
-use Rattle.soundness.proofs.Directory.{optional-fine, plain-fine, inside-fine, digest-fine, again-fine, there-fine}
-use Rattle.soundness.proofs.Sections.{section-read, single-manifest, single-nodes, described-manifest, nodes-there}
-use Rattle.soundness.proofs.Sections.{sound-nodes}
+use Rattle.refusals.specs.Refusals.{Clear, none, more, rowHolds}
+use Rattle.refusals.proofs.Rows.{clear-row, clear-before, clear-after, clear-joined}
+use Rattle.container.proofs.HeaderLaws.{most-exactly, least-exactly}
+use Rattle.soundness.proofs.FileFormat.{readHeader, readDirectory, one-directory, has-directory, of-directory, one-section, has-section}
+use Rattle.soundness.proofs.Directory.{Directory, magic-fine, major-fine, directory-fine, Optional, Plain, Inside, Digested, All, optional-fine, plain-fine, inside-fine, digest-fine, again-fine, there-fine}
+use Rattle.soundness.proofs.Sections.{section-read, single-manifest, single-nodes, described-manifest, nodes-there, sound-nodes}
 use Rattle.soundness.proofs.References.{resolved-exactly}
 
 -- a test that cannot hold does not
@@ -43,42 +39,26 @@ module _ (file : List ℕ) where
   abbrev s : List ℕ
   s = nodesSection file
 
-  -- the rows by what they look at
-  all-exactly : Clear (checks file) ↔ (Clear (nameChecks file) × Clear (nodeChecks m s))
-  unfolding checks
-  all-exactly = clear-parts (nameChecks file) (nodeChecks m s)
-
-  names-exactly : Clear (nameChecks file) ↔
-      (Clear (headerChecks file) × Clear (directoryChecks file) × Clear (manifestChecks m))
-  unfolding nameChecks
-  names-exactly =
-      let outer = clear-parts (headerChecks file) (directoryChecks file ++ manifestChecks m) in
-      let inner = clear-parts (directoryChecks file) (manifestChecks m) in
-      (λ h. let (a, b) = outer .0 h in let (c, d) = inner .0 b in (a, c, d), λ h. outer .1 (h .0, inner .1 (h .1, h .2)))
-
   pub clear-described : Clear (nameChecks file) → Described file
-  unfolding headerChecks directoryChecks manifestChecks
+  unfolding nameChecks containerChecks headerChecks directoryChecks manifestChecks rowHolds
   clear-described h =
-      let (header, directory, (r12, (r13, (r14, _)))) = names-exactly .0 h in
-      let (r1, (r2, (r3, (r4, (r5, _))))) = header in
-      let (r6, (r7, (r8, (r9, (r10, (r11, _)))))) = directory in
-      let (sections-least, sections-most, offset, room) = directory-fine file .0 r5 in
+      let (sections-least, sections-most, offset, room) = directory-fine file .0 (clear-row 5 h) in
       let there = has-directory file room in
-      let optional = optional-fine file .0 r6 in
-      let plain = plain-fine file .0 r7 in
-      let inside = inside-fine file .0 r8 in
-      let (once-1, once-2) = again-fine file .0 r9 in
-      let (some-1, some-2) = there-fine file .0 r10 in
-      let digest = digest-fine file .0 r11 in
-      let (c, is) = shaped-exactly m .0 r12 in
+      let optional = optional-fine file .0 (clear-row 6 h) in
+      let plain = plain-fine file .0 (clear-row 7 h) in
+      let inside = inside-fine file .0 (clear-row 8 h) in
+      let (once-1, once-2) = again-fine file .0 (clear-row 9 h) in
+      let (some-1, some-2) = there-fine file .0 (clear-row 10 h) in
+      let digest = digest-fine file .0 (clear-row 11 h) in
+      let (c, is) = shaped-exactly m .0 (clear-row 12 h) in
       record {
         header = readHeader file;
         entries = readDirectory file;
         manifest = c;
-        most = most-exactly file .0 r1;
+        most = most-exactly file .0 (clear-row 1 h);
         has-directory = there;
-        magic = magic-fine file (least-exactly file .0 r2) .0 r3;
-        major = major-fine file .0 r4;
+        magic = magic-fine file (least-exactly file .0 (clear-row 2 h)) .0 (clear-row 3 h);
+        major = major-fine file .0 (clear-row 4 h);
         sections-least = sections-least;
         sections-most = sections-most;
         directory-offset = offset;
@@ -95,32 +75,32 @@ module _ (file : List ℕ) where
         manifest-bytes = m;
         manifest-section = section-read file 1 once-1 there inside some-1;
         is-manifest = is;
-        supported = supported-exactly m c is .0 r13;
-        named = named-exactly m c is .0 r14;
+        supported = supported-exactly m c is .0 (clear-row 13 h);
+        named = named-exactly m c is .0 (clear-row 14 h);
       }
 
   pub clear-sound : Clear (checks file) → Sound file
-  unfolding nodeChecks
+  unfolding checks nodeChecks rowHolds
   clear-sound h =
-      let (names, (r15, (r16, (r17, (r18, (r19, (r20, _))))))) = all-exactly .0 h in
-      let d = clear-described names in
+      let d = clear-described (clear-before (nameChecks file) (nodeChecks m s) h) in
+      let rows = clear-after (nameChecks file) (nodeChecks m s) h in
       let c = d .manifest in
       let is = described-manifest d in
-      let (rs, are) = nodes-exactly s .0 (not-false _ r15) in
+      let (rs, are) = nodes-exactly s .0 (not-false _ (clear-row 15 rows)) in
       let e = reads-nodes s rs are in
-      let distinct = distinct-exactly rs .0 (rw e at r17) in
-      let closed = closed-exactly s rs are .0 (rw e at r18) in
-      let (roots, exports) = resolved-exactly m s e (reads-roots m c is) (reads-exports m c is) .0 r20 in
+      let distinct = distinct-exactly rs .0 (rw e at (clear-row 17 rows)) in
+      let closed = closed-exactly s rs are .0 (rw e at (clear-row 18 rows)) in
+      let (roots, exports) = resolved-exactly m s e (reads-roots m c is) (reads-exports m c is) .0 (clear-row 20 rows) in
       record {
         described = d;
         nodes = rs;
         nodes-bytes = s;
         nodes-section = nodes-there d;
         is-nodes = are;
-        hashed = hashed-exactly rs .0 (rw e at r16);
+        hashed = hashed-exactly rs .0 (rw e at (clear-row 16 rows));
         distinct = distinct;
         closed = closed;
-        acyclic = λ k. not-both (circular-exactly s rs are distinct closed .1 k) (rw e at r19);
+        acyclic = λ k. not-both (circular-exactly s rs are distinct closed .1 k) (rw e at (clear-row 19 rows));
         roots = roots;
         exports = exports;
       }
@@ -130,23 +110,15 @@ module _ (file : List ℕ) where
     unfolding headerChecks
     header-clear =
         let (e, f, room) = one-directory (d .has-directory) in
-        let long : fileSize .least ≤ length file = omega arith in (
-          most-exactly file .1 (d .most),
-          (
-            least-exactly file .1 long,
-            (
-              magic-fine file long .1 (ap (λ (h : Header). h .magic) e ∙ d .magic),
-              (
-                major-fine file .1 (ap (λ (h : Header). h .major) e ∙ d .major),
-                (
-                  directory-fine file .1
-                      (subst (Directory file) (sym e) (d .sections-least, d .sections-most, d .directory-offset, room)),
-                  tt,
-                ),
-              ),
-            ),
-          ),
-        )
+        let long : fileSize .least ≤ length file = omega arith in
+        more (most-exactly file .1 (d .most))
+        (more (least-exactly file .1 long)
+        (more (magic-fine file long .1 (ap (λ (h : Header). h .magic) e ∙ d .magic))
+        (more (major-fine file .1 (ap (λ (h : Header). h .major) e ∙ d .major))
+        (more
+        (directory-fine file .1
+        (subst (Directory file) (sym e) (d .sections-least, d .sections-most, d .directory-offset, room)))
+        none))))
 
     -- each entry that is read is fine
     each-fine : (P : Entry → Type 0) → ((e : Entry) → SoundEntry file e → P e) → All file P
@@ -159,31 +131,25 @@ module _ (file : List ℕ) where
         let there : Occurs 1 (readDirectory file) × Occurs 2 (readDirectory file) =
         of-directory (λ es. Occurs 1 es × Occurs 2 es) (d .has-directory) (d .one-manifest .0, d .one-nodes .0) in
         let digested : (e : Entry) → SoundEntry file e → Digested file e =
-        λ e s k. subst (λ (b : List ℕ). sha256 b ≡ e .digest) (sym (one-section (s .inside) .1)) (s .digest k) in (
-          optional-fine file .1 (each-fine Optional (λ e s. s .optional)),
-          (
-            plain-fine file .1 (each-fine Plain (λ e s. (s .compression, s .algorithm))),
-            (
-              inside-fine file .1 (each-fine (Inside file) (λ e s. one-section (s .inside) .0)),
-              (
-                again-fine file .1 (single-manifest d, single-nodes d),
-                (there-fine file .1 there, (digest-fine file .1 (each-fine (Digested file) digested), tt)),
-              ),
-            ),
-          ),
-        )
+        λ e s k. subst (λ (b : List ℕ). sha256 b ≡ e .digest) (sym (one-section (s .inside) .1)) (s .digest k) in
+        more (optional-fine file .1 (each-fine Optional (λ e s. s .optional)))
+        (more (plain-fine file .1 (each-fine Plain (λ e s. (s .compression, s .algorithm))))
+        (more (inside-fine file .1 (each-fine (Inside file) (λ e s. one-section (s .inside) .0)))
+        (more (again-fine file .1 (single-manifest d, single-nodes d))
+        (more (there-fine file .1 there)
+        (more (digest-fine file .1 (each-fine (Digested file) digested)) none)))))
 
     manifest-clear : Clear (manifestChecks m)
     unfolding manifestChecks
     manifest-clear =
         let c = d .manifest in
-        let is = described-manifest d in (
-          shaped-exactly m .1 (c, is),
-          (supported-exactly m c is .1 (d .supported), (named-exactly m c is .1 (d .named), tt)),
-        )
+        let is = described-manifest d in
+        more (shaped-exactly m .1 (c, is))
+        (more (supported-exactly m c is .1 (d .supported)) (more (named-exactly m c is .1 (d .named)) none))
 
     pub described-clear : Clear (nameChecks file)
-    described-clear = names-exactly .1 (header-clear, directory-clear, manifest-clear)
+    unfolding nameChecks containerChecks
+    described-clear = clear-joined (clear-joined header-clear directory-clear) manifest-clear
 
   module _ (sound : Sound file) where
     node-clear : Clear (nodeChecks m s)
@@ -194,22 +160,15 @@ module _ (file : List ℕ) where
         let c = sound .described .manifest in
         let is = described-manifest (sound .described) in
         let e = reads-nodes s rs are in
-        let circles = circular-exactly s rs are (sound .distinct) (sound .closed) in (
-          rw (nodes-exactly s .1 (rs, are)),
-          (
-            rw e (hashed-exactly rs .1 (sound .hashed)),
-            (
-              rw e (distinct-exactly rs .1 (sound .distinct)),
-              (
-                rw e (closed-exactly s rs are .1 (sound .closed)),
-                (
-                  rw e (false-of (circular rs) (λ q. sound .acyclic (circles .0 q))),
-                  (resolved-exactly m s e (reads-roots m c is) (reads-exports m c is) .1 (sound .roots, sound .exports), tt),
-                ),
-              ),
-            ),
-          ),
-        )
+        let circles = circular-exactly s rs are (sound .distinct) (sound .closed) in
+        more (ap not (nodes-exactly s .1 (rs, are)))
+        (more (rw (sym e) at (hashed-exactly rs .1 (sound .hashed)))
+        (more (rw (sym e) at (distinct-exactly rs .1 (sound .distinct)))
+        (more (rw (sym e) at (closed-exactly s rs are .1 (sound .closed)))
+        (more (rw (sym e) at (false-of (circular rs) (λ q. sound .acyclic (circles .0 q))))
+        (more (resolved-exactly m s e (reads-roots m c is) (reads-exports m c is) .1 (sound .roots, sound .exports))
+        none)))))
 
     pub sound-clear : Clear (checks file)
-    sound-clear = all-exactly .1 (described-clear (sound .described), node-clear)
+    unfolding checks
+    sound-clear = clear-joined (described-clear (sound .described)) node-clear

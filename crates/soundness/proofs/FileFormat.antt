@@ -5,7 +5,8 @@ use mathlib.Core.List.{List, [], _∷_, _++_}
 use native.Mathlib.Omega.{arith}
 use lib.ListN.{length, take, drop, take-append-drop, length-take}
 use Rattle.wire.specs.Wire.{bigEndian, numberAt, span, orZero}
-use Rattle.wire.specs.Relations.{Number, Sequence, none, next, Among}
+use Rattle.wire.specs.Relations.{Number, Sequence, none, next}
+use Rattle.lists.specs.Among.{Among}
 use Rattle.wire.proofs.Parts.{part-length}
 use Rattle.wire.proofs.Spans.{number-in, span-in}
 use Rattle.wire.proofs.Reading.{Reads, reads-none, reads-join, reads-split, part-reads, reads-all, reads-span, reads-number}

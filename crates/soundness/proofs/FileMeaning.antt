@@ -6,9 +6,9 @@ use native.Mathlib.Omega.{arith}
 use lib.ListN.{length}
 use Rattle.wire.specs.Wire.{bigEndian}
 use Rattle.wire.proofs.Numbers.{big-endian-append}
-use Rattle.bundle.specs.declared.directory.Entry.{Entry as Read}
-use Rattle.bundle.specs.Header.{sectionCount, directoryOffset}
-use Rattle.bundle.specs.Directory.{entryAt, entriesFrom, entries, digestOf}
+use Rattle.container.specs.declared.directory.DirectoryEntry.{DirectoryEntry as Read}
+use Rattle.container.specs.Header.{sectionCount, directoryOffset}
+use Rattle.container.specs.Directory.{entryAt, entriesFrom, entries, digestOf}
 use Rattle.soundness.specs.FileGrammar.{Header, Entry, HasDirectory, OccursAgain}
 use Rattle.soundness.specs.FileMeaning.{BigEndian, HeaderExactly, OneHeader, ReadsHeader, DirectoryExactly, OneDirectory}
 use Rattle.soundness.specs.FileMeaning.{ReadsDirectory, SectionExactly, OneSection, ReadsSection}

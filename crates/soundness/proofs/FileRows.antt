@@ -10,22 +10,18 @@ use lib.ListN.{length}
 use Rattle.wire.specs.Wire.{span, ascii}
 use Rattle.sha256_block.specs.Fips180.{sha256}
 use Rattle.sizes.specs.Sizes.{fileSize, sectionsSize}
-use Rattle.bundle.specs.declared.directory.Fault.the-variants.{Critical, Coded, Outside, Altered}
-use Rattle.bundle.specs.Header.{tooLong, tooShort, otherMagic, otherMajor, noDirectory}
-use Rattle.bundle.specs.Directory.{entries, someFaulty, occurrences, repeated, missing}
-use Rattle.bundle.specs.Checks.{headerChecks, directoryChecks}
-use Rattle.bundle.proofs.HeaderLaws.{most-exactly, least-exactly}
-use Rattle.bundle.proofs.Rows.{Clear}
+use Rattle.container.specs.Directory.{Critical, Coded, Outside, Altered}
+use Rattle.container.specs.Header.{tooLong, tooShort, otherMagic, otherMajor, noDirectory}
+use Rattle.container.specs.Directory.{entries, someEntry, occurrences, repeated, missing}
+use Rattle.container.specs.Checks.{headerChecks, directoryChecks}
+use Rattle.container.proofs.HeaderLaws.{most-exactly, least-exactly}
+use Rattle.refusals.specs.Refusals.{Clear, rowHolds}
+use Rattle.refusals.proofs.Rows.{clear-row}
 use Rattle.soundness.specs.FileGrammar.{Header, HasHeader, Entry, HasDirectory, listed, Occurs, OccursAgain}
-use Rattle.soundness.specs.Applies.{Applies, over, under, magic, major, sections, directory-offset, directory-end}
-use Rattle.soundness.specs.Applies.{critical, compression, algorithm, outside, again, missing as lost, digest}
-use Rattle.soundness.proofs.FileFormat.{readHeader, readDirectory, one-header, has-header, one-directory}
-use Rattle.soundness.proofs.FileFormat.{has-directory, one-section, has-section, of-directory, entry-read}
-use Rattle.soundness.proofs.Decides.{dec-same, dec-both, dec-where, not-both-so, not-within, not-where, not-each}
-use Rattle.soundness.proofs.Decides.{row-exactly}
-use Rattle.soundness.proofs.Directory.{Directory, magic-fine, major-fine, directory-fine}
-use Rattle.soundness.proofs.Directory.{Optional, Plain, Inside, Digested, All, dec-known}
-use Rattle.soundness.proofs.Directory.{optional-fine, plain-fine, inside-fine, digest-fine, again-fine, there-fine}
+use Rattle.soundness.specs.Applies.{Applies, over, under, magic, major, sections, directory-offset, directory-end, critical, compression, algorithm, outside, again, missing as lost, digest}
+use Rattle.soundness.proofs.FileFormat.{readHeader, readDirectory, one-header, has-header, one-directory, has-directory, one-section, has-section, of-directory, entry-read}
+use Rattle.soundness.proofs.Decides.{dec-same, dec-both, dec-where, not-both-so, not-within, not-where, not-each, row-exactly}
+use Rattle.soundness.proofs.Directory.{Directory, magic-fine, major-fine, directory-fine, Optional, Plain, Inside, Digested, All, dec-known, optional-fine, plain-fine, inside-fine, digest-fine, again-fine, there-fine}
 use Rattle.soundness.proofs.Mirror.{again-mirrored, there-mirrored}
 use Rattle.soundness.proofs.Smallest.{Means}
 
@@ -97,15 +93,14 @@ module _ (file : List ℕ) where
   )
 
   pub header-directory : Clear (headerChecks file) → HasDirectory (readHeader file) (readDirectory file) file
-  unfolding headerChecks
-  header-directory (r1, (r2, (r3, (r4, (r5, _))))) =
-      has-directory file (directory-fine file .0 r5 .3)
+  unfolding headerChecks rowHolds
+  header-directory h = has-directory file (directory-fine file .0 (clear-row 5 h) .3)
 
 -- ---- 6 to 11
 
 module _ (file : List ℕ) where
   module _ (here : HasDirectory (readHeader file) (readDirectory file) file) where
-    row-6 : (someFaulty file Critical (entries file) ≡ true) ↔ Applies file 6
+    row-6 : (someEntry file Critical (entries file) ≡ true) ↔ Applies file 6
     row-6 = row-exactly _ (optional-fine file) fault clash
       where
         fault : (All file Optional → ⊥) → Applies file 6
@@ -119,7 +114,7 @@ module _ (file : List ℕ) where
         clash : Applies file 6 → All file Optional → ⊥
         clash (critical {e = e} k u o) f = omega (arith, f e (entry-read k) u)
 
-    row-7 : (someFaulty file Coded (entries file) ≡ true) ↔ Applies file 7
+    row-7 : (someEntry file Coded (entries file) ≡ true) ↔ Applies file 7
     row-7 = row-exactly _ (plain-fine file) fault clash
       where
         fault : (All file Plain → ⊥) → Applies file 7
@@ -133,7 +128,7 @@ module _ (file : List ℕ) where
         clash (compression {e = e} k n) f = n (f e (entry-read k) .0)
         clash (algorithm {e = e} k n) f = n (f e (entry-read k) .1)
 
-    row-8 : (someFaulty file Outside (entries file) ≡ true) ↔ Applies file 8
+    row-8 : (someEntry file Outside (entries file) ≡ true) ↔ Applies file 8
     row-8 = row-exactly _ (inside-fine file) fault clash
       where
         fault : (All file (Inside file) → ⊥) → Applies file 8
@@ -179,7 +174,7 @@ module _ (file : List ℕ) where
             let q = one-directory k .1 in
             ⊎-elim (λ p. p (subst (Occurs 1) q (f .0))) (λ p. p (subst (Occurs 2) q (f .1))) o
 
-    row-11 : All file (Inside file) → (someFaulty file Altered (entries file) ≡ true) ↔ Applies file 11
+    row-11 : All file (Inside file) → (someEntry file Altered (entries file) ≡ true) ↔ Applies file 11
     row-11 inside = row-exactly _ (digest-fine file) fault clash
       where
         fault : (All file (Digested file) → ⊥) → Applies file 11

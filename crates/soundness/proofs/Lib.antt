@@ -7,7 +7,6 @@ pub mod ManifestStrings
 pub mod ManifestMeaning
 pub mod ManifestLengths
 pub mod NodesFormat
-pub mod NodesTests
 pub mod NodesCircles
 pub mod NodesTrees
 pub mod NodesHashes

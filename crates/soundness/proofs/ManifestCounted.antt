@@ -4,11 +4,9 @@ use mathlib.Core.Path.{_≡_, refl, ap}
 use mathlib.Core.List.{List, [], _++_}
 use native.Mathlib.Omega.{arith}
 use lib.ListN.{length, getD, take}
-use Rattle.wire.specs.Wire.{numberAt, onNumber}
 use Rattle.wire.specs.Relations.{Sequence, none, next}
-use Rattle.wire.specs.declared.Num.the-variants.{Value}
 use Rattle.wire.proofs.Reading.{Reads, reads-none, reads-join, reads-split, number-reads, reads-number}
-use Rattle.sizes.specs.Sizes.{within, capabilitiesSize, rootsSize, exportsSize, fieldsSize}
+use Rattle.sizes.specs.Sizes.{anyCount, rootsSize, exportsSize, fieldsSize}
 use Rattle.sizes.specs.declared.Size.{Size}
 use Rattle.sizes.proofs.Within.{within-exactly}
 use Rattle.manifest_shape.specs.declared.parts.Parsed.{Parsed}
@@ -16,39 +14,25 @@ use Rattle.manifest_shape.specs.declared.parts.Parsed.the-variants.{To, Bad}
 use Rattle.manifest_shape.specs.declared.parts.Kind.{Kind}
 use Rattle.manifest_shape.specs.declared.parts.Kind.the-variants.{Text, Root, Export, Field}
 use Rattle.manifest_shape.specs.Shape.{sizedEnd, fieldEnd, itemEnd, itemsEnd, countedEnd}
-use Rattle.manifest.specs.Content.{textAt, countAt, exportAt, listFrom, rootsAt, exportsAt}
+use Rattle.manifest.specs.Content.{textAt, exportAt, listFrom, rootsAt, exportsAt}
 use Rattle.soundness.specs.ManifestGrammar.{IsString, IsRoot, IsExport, IsField, IsCounted, counted}
-use Rattle.soundness.proofs.ManifestParses.{Parses, then-to, number-to, cond-to}
-use Rattle.soundness.proofs.ManifestPieces.{string-past, root-past, export-past}
+use Rattle.manifest_shape.proofs.Ends.{then-to, string-past, counted-number}
+use Rattle.manifest.proofs.Counted.{countedAt, root-past, export-past, items-length}
+use Rattle.soundness.proofs.ManifestParses.{Parses}
 use Rattle.soundness.proofs.ManifestPieces.{string-parses, root-parses, export-parses, fieldAt, field-parses}
-
--- the things behind the count that stands at a position
-abbrev pub countedAt : {A : Type 0} → List ℕ → (ℕ → Parsed) → (ℕ → A) → ℕ → List A
-countedAt s past read at = onNumber (numberAt 4 s at) (λ n. listFrom past read n (at + 4)) []
-
--- where a count and its things end, the count is within its size, and the things end there
-pub counted-number : {A : Type 0} (s : List ℕ) (kind : Kind) (size : Size) (at : ℕ) {e : ℕ} → countedEnd s kind size at ≡ To e →
-    ((n : ℕ) → numberAt 4 s at ≡ Value n → size .least ≤ n → n ≤ size .most → itemsEnd s kind n (at + 4) ≡ To e → A) → A
-unfolding countedEnd
-counted-number s kind size at g f =
-    number-to (numberAt 4 s at) _ g λ n h k.
-    let (w, m) = cond-to (within size n) _ k in
-    let (l, u) = within-exactly size n .0 w in
-    f n h l u m
 
 -- `past` is where the reader goes on: where the thing ends
 module _ {A : Type 0} (s : List ℕ) (kind : Kind) (past : ℕ → Parsed) (read : ℕ → A) (Is : A → List ℕ → Type 0)
     (ends : (at e : ℕ) → itemEnd s kind at ≡ To e → past at ≡ To e) (parses : Parses s (itemEnd s kind) read Is) where
   pub items-forth : (n : ℕ) {at e : ℕ} → at ≤ length s → itemsEnd s kind n at ≡ To e →
-      (b : List ℕ) × Reads s at e b × Sequence Is (listFrom past read n at) b ×
-      (length (listFrom past read n at) ≡ n)
+      (b : List ℕ) × Reads s at e b × Sequence Is (listFrom past read n at) b
   unfolding itemsEnd listFrom
-  items-forth zero {at} {e} l g = let q : at ≡ e = cc in ([], rw (← q) (reads-none s at l), none, refl)
+  items-forth zero {at} {e} l g = let q : at ≡ e = cc in ([], rw (← q) (reads-none s at l), none)
   items-forth (suc n) {at} l g =
       then-to (itemEnd s kind at) _ g λ p h k.
       let (a, r, i) = parses .forth h in
-      let (b, t, j, m) = items-forth n (r .fits) k in
-      (a ++ b, reads-join r t, rw (ends at p h) (next i j), rw (ends at p h) (ap suc m))
+      let (b, t, j) = items-forth n (r .fits) k in
+      (a ++ b, reads-join r t, rw (ends at p h) (next i j))
 
   pub items-back : {xs : List A} {b : List ℕ} {at e : ℕ} → Reads s at e b → Sequence Is xs b →
       (itemsEnd s kind (length xs) at ≡ To e) × (listFrom past read (length xs) at ≡ xs)
@@ -77,8 +61,9 @@ module _ {A : Type 0} (s : List ℕ) (kind : Kind) (past : ℕ → Parsed) (read
   counted-forth size {at} g =
       counted-number s kind size at g λ n h l u k.
       let (a, r, m) = number-reads s at 4 h in
-      let (b, t, i, q) = items-forth n (r .fits) k in
+      let (b, t, i) = items-forth n (r .fits) k in
       let xs = listFrom past read n (at + 4) in
+      let q = items-length s kind past read ends n (at + 4) k in
       (a ++ b, reads-join r t, rw h (counted {xs = xs} {n = a} (rw q m) (rw q l) (rw q u) i))
 
   counted-back : (size : Size) {at e : ℕ} {b : List ℕ} {xs : List A} → Reads s at e b → IsCounted Is (size .least) (size .most) xs b →
@@ -94,15 +79,6 @@ module _ {A : Type 0} (s : List ℕ) (kind : Kind) (past : ℕ → Parsed) (read
       Parses s (countedEnd s kind size) (countedAt s past read) (IsCounted Is (size .least) (size .most))
   counted-parses size = record { forth = counted-forth size; back = counted-back size }
 
-  -- the count is how many things are read
-  pub counted-length : (size : Size) (at : ℕ) {e : ℕ} → countedEnd s kind size at ≡ To e →
-      countAt s at ≡ length (countedAt s past read at)
-  unfolding countAt
-  counted-length size at g =
-      counted-number s kind size at g λ n h l u k.
-      let (b, t, i, q) = items-forth n (number-reads s at 4 h .1 .fits) k in
-      rw (h, q)
-
 -- the four kinds
 module _ (s : List ℕ) where
   pub text-kind : Parses s (itemEnd s Text) (λ p. textAt s (To p)) IsString
@@ -113,10 +89,10 @@ module _ (s : List ℕ) where
   unfolding itemEnd
   export-kind = export-parses s
 
-  pub text-counted : Parses s (countedEnd s Text capabilitiesSize) (countedAt s (sizedEnd s) (λ p. textAt s (To p)))
+  pub text-counted : Parses s (countedEnd s Text anyCount) (countedAt s (sizedEnd s) (λ p. textAt s (To p)))
       (IsCounted IsString 0 4294967295)
   unfolding itemEnd
-  text-counted = counted-parses s Text _ _ _ (string-past s) (string-parses s) capabilitiesSize
+  text-counted = counted-parses s Text _ _ _ (string-past s) (string-parses s) anyCount
 
   pub root-counted : Parses s (countedEnd s Root rootsSize) (rootsAt s) (IsCounted IsRoot 1 16)
   unfolding itemEnd rootsAt
@@ -130,12 +106,3 @@ module _ (s : List ℕ) where
       (IsCounted IsField 0 16)
   unfolding itemEnd
   field-counted = counted-parses s Field _ _ _ (λ at e g. g) (field-parses s) fieldsSize
-
-  pub text-length : (at : ℕ) {e : ℕ} → countedEnd s Text capabilitiesSize at ≡ To e →
-      countAt s at ≡ length (countedAt s (sizedEnd s) (λ p. textAt s (To p)) at)
-  unfolding itemEnd
-  text-length at g = counted-length s Text _ _ _ (string-past s) (string-parses s) capabilitiesSize at g
-
-  pub export-length : (at : ℕ) {e : ℕ} → countedEnd s Export exportsSize at ≡ To e → countAt s at ≡ length (exportsAt s at)
-  unfolding itemEnd exportsAt
-  export-length at g = counted-length s Export _ _ _ (export-past s) (export-parses s) exportsSize at g

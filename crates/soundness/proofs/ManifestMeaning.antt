@@ -5,12 +5,14 @@ use mathlib.Core.List.{List, [], _∷_}
 use mathlib.Core.Bool.{true, false}
 use mathlib.Core.Logic.{_↔_}
 use native.Mathlib.Omega.{arith}
-use borrow.Author.Tests.{eqb-true, eqb-false, eq-eqb, ne-eqb}
+use borrow.Author.Tests.{eqb-false, ne-eqb}
+use Rattle.sizes.specs.Sizes.{within, capabilitiesSize}
+use Rattle.sizes.proofs.Within.{within-exactly}
 use lib.ListN.{length}
 use lib.Dec.{eqb}
-use Rattle.wire.proofs.Some.{any-none, any-more}
-use Rattle.wire.proofs.Tests.{not-exactly}
-use Rattle.wire.proofs.Bytes.{not-both}
+use Rattle.lists.proofs.Some.{any-none, any-more}
+use Rattle.lists.proofs.Tests.{not-exactly}
+use Rattle.lists.proofs.Same.{not-both}
 use Rattle.wire.proofs.Reading.{reads-all}
 use Rattle.manifest_shape.specs.declared.Layout.{Layout}
 use Rattle.manifest_shape.specs.declared.Manifest.{Manifest}
@@ -20,11 +22,12 @@ use Rattle.manifest.specs.Content.{exportsAt}
 use Rattle.manifest.specs.Judged.{malformed, unsupportedAt, unsupported, misnamedAt, misnamed, rootsOf, exportsOf}
 use Rattle.soundness.specs.ManifestGrammar.{Contents, IsManifest}
 use Rattle.soundness.specs.ManifestMeaning.{Supported, Named}
-use Rattle.soundness.specs.ManifestMeaning.{ShapedExactly, SupportedExactly, NamedExactly}
+use Rattle.soundness.specs.ManifestMeaning.{ManifestShapedExactly, SupportedExactly, NamedExactly}
 use Rattle.soundness.specs.ManifestMeaning.{ReadsRoots, ReadsExports, OneManifest}
 use Rattle.soundness.proofs.ManifestPieces.{closure-parses}
-use Rattle.soundness.proofs.ManifestCounted.{text-length}
-use Rattle.soundness.proofs.ManifestWhole.{Laid, contentsAt, shape-laid, whole-forth, whole-back}
+use Rattle.manifest_shape.proofs.Laid.{Laid, shape-laid}
+use Rattle.manifest.proofs.Counted.{text-length}
+use Rattle.soundness.proofs.ManifestWhole.{contentsAt, whole-forth, whole-back}
 use Rattle.soundness.proofs.ManifestFaults.{abis-exactly, sizes-exactly, names-exactly}
 use Rattle.soundness.proofs.ManifestStrings.{strings-exactly}
 
@@ -32,7 +35,7 @@ use Rattle.soundness.proofs.ManifestStrings.{strings-exactly}
 layout-of : {s : List ℕ} {m : Contents} → IsManifest m s → (l : Layout) × (manifestOf s ≡ Shape l) × (contentsAt s l ≡ m)
 layout-of {s} i = whole-back (reads-all s) i
 
-pub shaped-exactly : ShapedExactly
+pub shaped-exactly : ManifestShapedExactly
 unfolding malformed
 shaped-exactly s = (go (manifestOf s) refl, λ m. let (l, g, e) = layout-of (m .1) in rw g)
   where
@@ -56,9 +59,12 @@ one-manifest s m n i j =
     sym e ∙ ap (contentsAt s) q ∙ f
 
 -- the four tests of 13
-no-items : (n : ℕ) {A : Type 0} (xs : List A) → n ≡ length xs → (eqb n 0 ≡ true) ↔ (xs ≡ [])
-no-items n [] q = (λ h. refl, λ e. eq-eqb n 0 q)
-no-items n (x ∷ xs) q = (λ h. absurd (omega (arith, eqb-true n 0 h)), λ e. eq-eqb n 0 (q ∙ ap length e))
+no-items : (n : ℕ) {A : Type 0} (xs : List A) → n ≡ length xs → (within capabilitiesSize n ≡ true) ↔ (xs ≡ [])
+no-items n [] q = (λ h. refl, λ e. within-exactly capabilitiesSize n .1 (omega arith))
+no-items n (x ∷ xs) q = (
+  λ h. absurd (omega (arith, within-exactly capabilitiesSize n .0 h .1)),
+  λ e. within-exactly capabilitiesSize n .1 (omega (arith, ap length e)),
+)
 
 zero-exactly : (n : ℕ) → n ≤ 1 → (eqb n 1 ≡ false) ↔ (n ≡ 0)
 zero-exactly n h = (λ e. omega (arith, eqb-false n 1 e), λ e. ne-eqb n 1 (omega arith))

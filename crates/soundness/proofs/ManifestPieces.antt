@@ -1,6 +1,6 @@
 -- Strings, roots, exports, fields and the closure byte: their parsers and readers give what the grammar says.
 use Prim.Native.Nat.{ℕ, _+_, _≤_}
-use mathlib.Core.Path.{_≡_, refl, sym, _∙_}
+use mathlib.Core.Path.{_≡_, refl, sym}
 use mathlib.Core.List.{List, [], _∷_, _++_}
 use native.Mathlib.Omega.{arith}
 use borrow.Author.Tests.{leb-true, le-leb}
@@ -10,22 +10,16 @@ use Rattle.wire.specs.Wire.{bigEndian, numberAt, span, orZero}
 use Rattle.wire.specs.Relations.{Number}
 use Rattle.wire.specs.declared.Num.the-variants.{Value}
 use Rattle.wire.proofs.Reading.{Reads, reads-join, reads-split, number-reads, reads-number}
-use Rattle.utf8.specs.Check.{check}
 use Rattle.utf8.specs.Rfc3629.{Utf8Octets}
-use Rattle.utf8.specs.declared.Utf8.{Utf8}
-use Rattle.utf8.specs.declared.Utf8.the-variants.{Valid, BadAt}
 use Rattle.utf8.proofs.Meaning.{valid-exactly}
-use Rattle.manifest_shape.specs.declared.parts.Parsed.{Parsed}
 use Rattle.manifest_shape.specs.declared.parts.Parsed.the-variants.{To}
-use Rattle.manifest_shape.specs.Shape.{ifValid, bytesEnd, textEnd, stringEnd, rootEnd, exportEnd}
+use Rattle.manifest_shape.specs.Shape.{bytesEnd, textEnd, stringEnd, rootEnd, exportEnd}
 use Rattle.manifest_shape.specs.Shape.{sizedEnd, fieldEnd, closureEnd}
-use Rattle.manifest.specs.Content.{Root, Export, rootPast, exportPast, textAt, hashAt, rootAt, exportAt}
+use Rattle.manifest_shape.proofs.Ends.{to-same, then-to, number-to, cond-to, string-to, string-past}
+use Rattle.manifest.specs.Content.{Root, Export, rootPast, textAt, hashAt, rootAt, exportAt}
+use Rattle.manifest.proofs.Counted.{root-past}
 use Rattle.soundness.specs.ManifestGrammar.{Field, IsString, string, IsRoot, root, IsExport, export, IsField, field}
-use Rattle.soundness.proofs.ManifestParses.{Parses, not-to, to-same, then-to, number-to, cond-to, bytes-reads, reads-bytes}
-
-valid-to : (u : Utf8) (p : Parsed) {e : ℕ} → ifValid u p ≡ To e → (u ≡ Valid) × (p ≡ To e)
-valid-to Valid p g = (refl, g)
-valid-to (BadAt n) p g = not-to g
+use Rattle.soundness.proofs.ManifestParses.{Parses, bytes-reads, reads-bytes}
 
 -- a u32 length and that many bytes, which stand under a string and under a field
 module _ (s : List ℕ) (at : ℕ) where
@@ -53,12 +47,7 @@ module _ (s : List ℕ) (at : ℕ) where
 
   -- a string is such bytes that are UTF-8
   string-sized : {e : ℕ} → stringEnd s at ≡ To e → (sizedEnd s at ≡ To e) × Utf8Octets (textAt s (To at))
-  unfolding stringEnd textEnd sizedEnd textAt
-  string-sized g =
-      number-to (numberAt 4 s at) _ g λ v k h.
-      then-to (bytesEnd s (at + 4) v) _ h λ q b i.
-      let (u, f) = valid-to (check (span s (at + 4) v)) (To q) i in
-      (rw k (b ∙ f), rw k (valid-exactly (span s (at + 4) v) .0 u))
+  string-sized g = string-to s at g λ v k h u. (h, rw (text-is k) (valid-exactly (span s (at + 4) v) .0 u))
 
   sized-string : {e : ℕ} → sizedEnd s at ≡ To e → Utf8Octets (textAt s (To at)) → stringEnd s at ≡ To e
   unfolding stringEnd textEnd sizedEnd textAt
@@ -81,21 +70,6 @@ module _ (s : List ℕ) where
       ((p : ℕ) → bytesEnd s at 32 ≡ To p → stringEnd s p ≡ To e → A) → A
   unfolding rootEnd
   root-to at g = then-to (bytesEnd s at 32) (stringEnd s) g
-
-  -- what ends somewhere ends there by its lengths alone too
-  pub string-past : (at e : ℕ) → stringEnd s at ≡ To e → sizedEnd s at ≡ To e
-  string-past at e g = string-sized s at g .0
-
-  pub root-past : (at e : ℕ) → rootEnd s at ≡ To e → rootPast s at ≡ To e
-  unfolding rootPast
-  root-past at e g = root-to at g λ p h k. rw h (string-past p e k)
-
-  pub export-past : (at e : ℕ) → exportEnd s at ≡ To e → exportPast s at ≡ To e
-  unfolding exportEnd exportPast
-  export-past at e g =
-      then-to (stringEnd s at) _ g λ p h i.
-      then-to (rootEnd s p) _ i λ q j k.
-      rw (string-past at p h, root-past p q j) (string-past q e k)
 
   root-forth : {at e : ℕ} → rootEnd s at ≡ To e → (b : List ℕ) × Reads s at e b × IsRoot (rootAt s at) b
   unfolding hashAt
@@ -128,7 +102,7 @@ module _ (s : List ℕ) where
       let (c, r4, k) = string-forth h2 in (
         a ++ (span s p 32 ++ (b ++ c)),
         reads-join r1 (reads-join r2 (reads-join r3 r4)),
-        rw (string-past at p g1, root-past p q g2, g3) (export i l j k),
+        rw (string-past s at p g1, root-past s p q g2, g3) (export i l j k),
       )
 
   export-back : {at e : ℕ} {b : List ℕ} {x : Export} → Reads s at e b → IsExport x b →
@@ -142,7 +116,7 @@ module _ (s : List ℕ) where
       let (g2, h2) = reads-bytes s p 32 b l in
       let (g3, h3) = string-back c j in
       let (g4, h4) = string-back d k in
-      (rw (g1, g2, g3, g4), rw (h1, string-past _ _ g1, h2, g2, h3, string-past _ _ g3, h4))
+      (rw (g1, g2, g3, g4), rw (h1, string-past s _ _ g1, h2, g2, h3, string-past s _ _ g3, h4))
 
   pub export-parses : Parses s (exportEnd s) (exportAt s) IsExport
   export-parses = record { forth = export-forth; back = export-back }

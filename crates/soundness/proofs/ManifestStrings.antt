@@ -5,8 +5,8 @@ use mathlib.Core.List.{List, [], _∷_}
 use mathlib.Core.Bool.{Bool, true, false}
 use mathlib.Core.Logic.{_↔_, Iff·trans}
 use lib.ListN.{length}
-use Rattle.wire.specs.Wire.{sameBytes}
-use Rattle.wire.proofs.Bytes.{same-sound, same-true, not-both}
+use Rattle.lists.specs.Lists.{sameBytes}
+use Rattle.lists.proofs.Same.{same-sound, same-true, not-both}
 use Rattle.manifest_shape.specs.declared.parts.Parsed.{Parsed}
 use Rattle.manifest_shape.specs.declared.parts.Parsed.the-variants.{To}
 use Rattle.manifest_shape.specs.declared.parts.Kind.the-variants.{Text}
@@ -14,8 +14,7 @@ use Rattle.manifest_shape.specs.Shape.{andThen, stringEnd, sizedEnd, itemEnd, i
 use Rattle.manifest.specs.Content.{textAt, textsFrom, listFrom}
 use Rattle.manifest.specs.Judged.{Wanted, exactly, anyText, meets, past, pastAll, nineStrings, stringsAgree}
 use Rattle.soundness.specs.ManifestMeaning.{NineStrings, nine}
-use Rattle.soundness.proofs.ManifestParses.{then-to}
-use Rattle.soundness.proofs.ManifestPieces.{string-past}
+use Rattle.manifest_shape.proofs.Ends.{then-to, string-past}
 
 -- texts are what is wanted of them, one by one
 pub data Agree : List Wanted → List (List ℕ) → Type 0 where

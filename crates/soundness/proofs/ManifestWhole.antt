@@ -1,89 +1,32 @@
 -- The whole manifest: a layout is found exactly where the bytes are a manifest, and what it reads is what they are.
 use Prim.Native.Nat.{ℕ}
-use mathlib.Core.Path.{_≡_, refl, ap, subst}
+use mathlib.Core.Path.{_≡_, refl, subst}
 use mathlib.Core.List.{List, [], _∷_, _++_}
-use mathlib.Core.Bool.{Bool, true, false, cond}
 use native.Mathlib.Omega.{arith}
-use borrow.Author.Tests.{eqb-true, eq-eqb}
+use borrow.Author.Tests.{eqb-true}
 use lib.ListN.{length}
 use lib.Dec.{eqb}
 use Rattle.wire.specs.Wire.{bigEndian, numberAt, span, holdsAt, ascii, orZero}
 use Rattle.wire.specs.Relations.{Number}
 use Rattle.wire.proofs.Reading.{Reads, all-reads, reads-join, reads-split}
 use Rattle.wire.proofs.Reading.{number-reads, reads-number, holds-reads, reads-holds}
-use Rattle.sizes.specs.Sizes.{capabilitiesSize, rootsSize, exportsSize, fieldsSize}
+use Rattle.sizes.specs.Sizes.{exportsSize, fieldsSize}
 use Rattle.manifest_shape.specs.declared.parts.Parsed.{Parsed}
-use Rattle.manifest_shape.specs.declared.parts.Parsed.the-variants.{To, Bad}
-use Rattle.manifest_shape.specs.declared.parts.Kind.the-variants.{Text, Root, Export, Field}
+use Rattle.manifest_shape.specs.declared.parts.Parsed.the-variants.{To}
+use Rattle.manifest_shape.specs.declared.parts.Kind.the-variants.{Text, Export, Field}
 use Rattle.manifest_shape.specs.declared.Layout.{Layout}
-use Rattle.manifest_shape.specs.declared.Manifest.the-variants.{Shape, Malformed}
-use Rattle.manifest_shape.specs.Shape.{itemEnd, itemsEnd, countedEnd, sizedEnd, fieldEnd}
-use Rattle.manifest_shape.specs.Shape.{andThen, closureEnd, headEnd, place, ending, manifestOf}
+use Rattle.manifest_shape.specs.declared.Manifest.the-variants.{Shape}
+use Rattle.manifest_shape.specs.Shape.{itemEnd, countedEnd, sizedEnd, fieldEnd}
+use Rattle.manifest_shape.specs.Shape.{andThen, headEnd, placeOf, manifestOf}
 use Rattle.manifest.specs.Content.{textAt, textsFrom, rootsAt, exportsAt}
 use Rattle.soundness.specs.ManifestGrammar.{Contents, IsHead, head, IsManifest, manifest}
-use Rattle.soundness.proofs.ManifestParses.{then-to, number-to, cond-to, bytes-reads, reads-bytes}
-use Rattle.soundness.proofs.ManifestPieces.{string-past, fieldAt, closure-parses}
-use Rattle.soundness.proofs.ManifestCounted.{countedAt, items-forth, items-back}
+use Rattle.manifest_shape.proofs.Ends.{number-to, cond-to, string-past}
+use Rattle.manifest_shape.proofs.Laid.{Laid, laid-shape}
+use Rattle.manifest.proofs.Counted.{countedAt, items-length}
+use Rattle.soundness.proofs.ManifestParses.{bytes-reads, reads-bytes}
+use Rattle.soundness.proofs.ManifestPieces.{fieldAt, closure-parses}
+use Rattle.soundness.proofs.ManifestCounted.{items-forth, items-back}
 use Rattle.soundness.proofs.ManifestCounted.{text-kind, text-counted, root-counted, export-counted, field-counted}
-
--- each part of a manifest ends where the next begins, and the last at the end
-pub record Laid (s : List ℕ) (l : Layout) (metadata extensions : ℕ) : Type 0 where
-  pub head : headEnd s ≡ To (l .strings)
-  pub strings : itemsEnd s Text 9 (l .strings) ≡ To (l .capabilities)
-  pub capabilities : countedEnd s Text capabilitiesSize (l .capabilities) ≡ To (l .closure)
-  pub closure : closureEnd s (l .closure) ≡ To (l .roots)
-  pub roots : countedEnd s Root rootsSize (l .roots) ≡ To (l .exports)
-  pub exports : countedEnd s Export exportsSize (l .exports) ≡ To metadata
-  pub fields : countedEnd s Field fieldsSize metadata ≡ To extensions
-  pub rest : countedEnd s Field fieldsSize extensions ≡ To (length s)
-
-ending-shape : (s : List ℕ) (p : Parsed) (k l : Layout) → ending s p k ≡ Shape l → (p ≡ To (length s)) × (k ≡ l)
-unfolding ending
-ending-shape s (To e) k l g = go (eqb e (length s)) refl g
-  where
-    go : (t : Bool) → eqb e (length s) ≡ t → cond t (Shape k) Malformed ≡ Shape l → (To e ≡ To (length s)) × (k ≡ l)
-    go true q f = (ap To (eqb-true _ _ q), (cc))
-    go false q f = let z : _≡_ {A = ℕ} 0 1 = cc in absurd (omega arith)
-ending-shape s Bad k l g = let z : _≡_ {A = ℕ} 0 1 = cc in absurd (omega arith)
-
-pub shape-laid : {A : Type 0} (s : List ℕ) (l : Layout) → manifestOf s ≡ Shape l →
-    ((metadata extensions : ℕ) → Laid s l metadata extensions → A) → A
-unfolding manifestOf
-shape-laid s l g f =
-    let p1 : Parsed = headEnd s in
-    let p2 : Parsed = andThen p1 (itemsEnd s Text 9) in
-    let p3 : Parsed = andThen p2 (countedEnd s Text capabilitiesSize) in
-    let p4 : Parsed = andThen p3 (closureEnd s) in
-    let p5 : Parsed = andThen p4 (countedEnd s Root rootsSize) in
-    let p6 : Parsed = andThen p5 (countedEnd s Export exportsSize) in
-    let p7 : Parsed = andThen p6 (countedEnd s Field fieldsSize) in
-    let (end, same) = ending-shape s _ _ l g in
-    then-to p7 _ end λ q7 g7 h8.
-    then-to p6 _ g7 λ q6 g6 h7.
-    then-to p5 _ g6 λ q5 g5 h6.
-    then-to p4 _ g5 λ q4 g4 h5.
-    then-to p3 _ g4 λ q3 g3 h4.
-    then-to p2 _ g3 λ q2 g2 h3.
-    then-to p1 _ g2 λ q1 g1 h2.
-    let k : Layout = record { strings = q1; capabilities = q2; closure = q3; roots = q4; exports = q5 } in
-    let e : k ≡ l = rw (← same, g1, h2, h3, h4, h5) in
-    f q6 q7 (subst (λ (k : Layout). Laid s k q6 q7) e
-    (record { head = g1; strings = h2; capabilities = h3; closure = h4; roots = h5; exports = h6; fields = h7; rest = h8 }))
-
-laid-shape : {s : List ℕ} {l : Layout} {metadata extensions : ℕ} → Laid s l metadata extensions → manifestOf s ≡ Shape l
-unfolding manifestOf ending
-laid-shape {s} t =
-    rw (
-      t .head,
-      t .strings,
-      t .capabilities,
-      t .closure,
-      t .roots,
-      t .exports,
-      t .fields,
-      t .rest,
-      eq-eqb (length s) (length s) refl,
-    )
 
 abbrev magic : List ℕ
 magic = ascii "ARBMNFST"
@@ -122,8 +65,8 @@ contentsAt s l =
       closure = orZero (numberAt 1 s (l .closure));
       roots = rootsAt s (l .roots);
       exports = exportsAt s (l .exports);
-      metadata = countedAt s (fieldEnd s) (fieldAt s) (place metadata);
-      extensions = countedAt s (fieldEnd s) (fieldAt s) (place extensions);
+      metadata = countedAt s (fieldEnd s) (fieldAt s) (placeOf metadata);
+      extensions = countedAt s (fieldEnd s) (fieldAt s) (placeOf extensions);
     }
 
 -- what a found layout reads is what the bytes are: up to the exports, and from there on
@@ -132,7 +75,8 @@ pub head-reads : {s : List ℕ} {l : Layout} {metadata extensions : ℕ} → Lai
 unfolding itemEnd
 head-reads {s} {l} t =
     let (major, r1, m1, r2, m2) = head-forth s (t .head) in
-    let (b3, r3, i3, l3) = items-forth s Text _ _ _ (string-past s) (text-kind s) 9 (r2 .fits) (t .strings) in
+    let (b3, r3, i3) = items-forth s Text _ _ _ (string-past s) (text-kind s) 9 (r2 .fits) (t .strings) in
+    let l3 = items-length s Text _ (λ p. textAt s (To p)) (string-past s) 9 (l .strings) (t .strings) in
     let (b4, r4, i4) = text-counted s .forth (t .capabilities) in
     let (b5, r5, i5) = closure-parses s .forth (t .closure) in
     let (b6, r6, i6) = root-counted s .forth (t .roots) in

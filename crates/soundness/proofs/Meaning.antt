@@ -6,33 +6,31 @@ use mathlib.Core.Logic.{_↔_, Iff·rfl, Iff·symm, Iff·trans}
 use native.Mathlib.Omega.{arith}
 use Rattle.nodes.proofs.Children.{record-at}
 use Rattle.bundle.specs.Checks.{nameChecks, checks, nameRefusal, refusal}
-use Rattle.bundle.proofs.Rows.{clear-first, first-clear}
+use Rattle.refusals.proofs.Laws.{answers-none}
 use Rattle.soundness.specs.Sound.{Described}
 use Rattle.soundness.specs.Meaning.{DescribedExactly, SoundExactly, AcceptedExactly, OnlyCheck, OneTreeEach, LongestNodes}
 use Rattle.soundness.proofs.NodesMeaning.{one-tree-each as one-tree-of}
 use Rattle.soundness.proofs.NodesHashes.{some-nodes}
 use Rattle.soundness.proofs.NodesSizes.{nodes-most}
 use Rattle.soundness.proofs.Smallest.{one-number}
-use Rattle.soundness.proofs.Applies.{names-ascend, ascending, number-exactly, none-exactly, name-none-exactly}
+use Rattle.soundness.proofs.Applies.{names-numbered, numbered, number-exactly, none-exactly, name-none-exactly}
 use Rattle.soundness.proofs.File.{clear-described, clear-sound, described-clear, sound-clear}
 
 -- the checks 1 to 14 answer 0 exactly for a described file
 pub unrefused-described : (file : List ℕ) → (nameRefusal file ≡ 0) ↔ Described file
 unfolding nameRefusal
-unrefused-described file = (
-  λ e. clear-described file (first-clear 0 (nameChecks file) (names-ascend file) e),
-  λ d. clear-first (nameChecks file) (described-clear file d),
-)
+unrefused-described file =
+    let none = answers-none (nameChecks file) (names-numbered file) in
+    (λ e. clear-described file (none .1 e), λ d. none .0 (described-clear file d))
 
 pub described-exactly : DescribedExactly
 described-exactly file = Iff·trans (Iff·symm (unrefused-described file)) (name-none-exactly file)
 
 pub accepted-exactly : AcceptedExactly
 unfolding refusal
-accepted-exactly file = (
-  λ e. clear-sound file (first-clear 0 (checks file) (ascending file) e),
-  λ sound. clear-first (checks file) (sound-clear file sound),
-)
+accepted-exactly file =
+    let none = answers-none (checks file) (numbered file) in
+    (λ e. clear-sound file (none .1 e), λ sound. none .0 (sound-clear file sound))
 
 pub sound-exactly : SoundExactly
 sound-exactly file = Iff·trans (Iff·symm (accepted-exactly file)) (none-exactly file)

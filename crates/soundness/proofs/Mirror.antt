@@ -9,10 +9,10 @@ use native.Mathlib.Omega.{arith}
 use borrow.Author.Tests.{eqb-true, eq-eqb}
 use lib.Dec.{eqb}
 use Rattle.wire.specs.Wire.{span}
-use Rattle.wire.specs.Relations.{Among, here, there}
-use Rattle.bundle.specs.declared.directory.Entry.{Entry as Read}
-use Rattle.bundle.specs.Header.{sectionCount}
-use Rattle.bundle.specs.Directory.{entryAt, entriesFrom, entries, occurrences, entryOf, section}
+use Rattle.lists.specs.Among.{Among, here, there}
+use Rattle.container.specs.declared.directory.DirectoryEntry.{DirectoryEntry as Read}
+use Rattle.container.specs.Header.{sectionCount}
+use Rattle.container.specs.Directory.{entryAt, entriesFrom, entries, occurrences, entryOf, section}
 use Rattle.soundness.specs.FileGrammar.{Entry, Occurs, OccursAgain, again, later}
 use Rattle.soundness.proofs.FileFormat.{readHeader, readEntry, readEntries, readDirectory}
 

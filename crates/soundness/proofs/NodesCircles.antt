@@ -6,11 +6,11 @@ use mathlib.Core.Logic.{_↔_}
 use mathlib.Core.List.{List}
 use lib.ListN.{length}
 use borrow.Author.Tests.{ltb-true, lt-ltb}
-use Rattle.wire.specs.Relations.{Distinct}
+use Rattle.lists.specs.Among.{Distinct}
 use Rattle.sizes.specs.Sizes.{nodesSize}
 use Rattle.placing.specs.Circles as byNumber
 use Rattle.placing.proofs.Circles.{short-exactly-on-circles}
-use Rattle.nodes.specs.Records.{Node, hashes}
+use Rattle.nodes.specs.Records.{NodeRecord, hashes}
 use Rattle.nodes.specs.Links.{linksOf, placedOf, circular}
 use Rattle.soundness.specs.Graph.{Child, named, Descendant, child, deeper, Circle}
 use Rattle.soundness.specs.NodesGrammar.{IsNodes}
@@ -18,8 +18,8 @@ use Rattle.soundness.specs.NodesMeaning.{Closed}
 use Rattle.soundness.proofs.NodesHashes.{payload-children, payload-at, few-nodes}
 use Rattle.nodes.proofs.Children.{hashAt, number-of, record-at, link-child, child-link, links-ok, one-number}
 
-module _ (rs : List Node) {s : List ℕ} (are : IsNodes rs s) where
-  link-named : (i j : ℕ) → i < length rs → byNumber.Child (linksOf rs) i j → Child rs (hashAt rs i) (hashAt rs j)
+module _ (rs : List NodeRecord) {s : List ℕ} (are : IsNodes rs s) where
+  link-named : (i j : ℕ) → i < length rs → byNumber.ChildLink (linksOf rs) i j → Child rs (hashAt rs i) (hashAt rs j)
   link-named i j l c = named (record-at rs i l) refl (payload-at are i l) (link-child rs i j l c .1)
 
   link-down : (i j : ℕ) → i < length rs → byNumber.Descends (linksOf rs) i j → Descendant rs (hashAt rs i) (hashAt rs j)
@@ -30,7 +30,7 @@ module _ (rs : List Node) {s : List ℕ} (are : IsNodes rs s) where
   -- the other way round, from any record that has the hash
   module _ (apart : Distinct (hashes rs)) (closed : Closed rs) where
     child-down : {a b : List ℕ} → Child rs a b → (i : ℕ) × (i < length rs) × (hashAt rs i ≡ a) ×
-        (j : ℕ) × (j < length rs) × (hashAt rs j ≡ b) × byNumber.Child (linksOf rs) i j
+        (j : ℕ) × (j < length rs) × (hashAt rs j ≡ b) × byNumber.ChildLink (linksOf rs) i j
     child-down {a} {b} (named {r = r} {cs = cs} x e p y) =
         let (i, l, f) = number-of x in
         let (j, m, g, c) = child-link rs i l {h = b} (rw (f, payload-children p) y) (closed r cs x p b y) in
@@ -48,7 +48,7 @@ module _ (rs : List Node) {s : List ℕ} (are : IsNodes rs s) where
         let z : j ≡ k = one-number rs apart j k m n (f ∙ sym g) in
         (i, l, e, o, p, h, byNumber.deeper {k = o} x (rw z y))
 
-    pub circle-exactly : byNumber.Circle (linksOf rs) (length rs) ↔ Circle rs
+    pub circle-exactly : byNumber.LinkCircle (linksOf rs) (length rs) ↔ Circle rs
     circle-exactly = (
       λ c. let (i, l, d) = c in (hashAt rs i, link-down i i l d),
       λ c.

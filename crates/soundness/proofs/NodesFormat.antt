@@ -13,33 +13,12 @@ use Rattle.wire.specs.declared.Num.{Num}
 use Rattle.wire.specs.declared.Num.the-variants.{Value, Short}
 use Rattle.wire.specs.declared.Pos.{Pos}
 use Rattle.wire.specs.declared.Pos.the-variants.{At, Past}
-use Rattle.wire.proofs.Bytes.{not-both}
-use Rattle.wire.proofs.Reading.{
-  Reads,
-  reads-none,
-  reads-join,
-  reads-split,
-  reads-all,
-  all-reads,
-  span-reads,
-  reads-span,
-  number-reads,
-  reads-number,
-}
+use Rattle.lists.proofs.Same.{not-both}
+use Rattle.wire.proofs.Reading.{Reads, reads-none, reads-join, reads-split, reads-all, all-reads, span-reads, reads-span}
+use Rattle.wire.proofs.Reading.{number-reads, reads-number}
 use Rattle.sizes.specs.Sizes.{within, nodesSize}
 use Rattle.sizes.proofs.Within.{within-exactly}
-use Rattle.nodes.specs.Records.{
-  Node,
-  payloadEnd,
-  recordEnd,
-  recordAt,
-  recordsEnd,
-  records,
-  count,
-  nodesOf,
-  endsAt,
-  shaped,
-}
+use Rattle.nodes.specs.Records.{NodeRecord, payloadEnd, recordEnd, recordAt, recordsEnd, records, count, nodesOf, endsAt, shaped}
 use Rattle.soundness.specs.NodesGrammar.{IsPayload, leaf, stem, fork, IsRecord, node, IsNodes, nodes}
 use Rattle.nodes.proofs.Ends.{of-test, of-number, of-pos}
 
@@ -121,7 +100,7 @@ module _ (s : List ℕ) where
         rw z (node l (subst (λ (v : ℕ). Number 4 v c) (sym f) w) i),
       )
 
-  record-back : {at e : ℕ} {b : List ℕ} {r : Node} → Reads s at e b → IsRecord r b →
+  record-back : {at e : ℕ} {b : List ℕ} {r : NodeRecord} → Reads s at e b → IsRecord r b →
       (recordEnd s at ≡ At e) × (recordAt s at e ≡ r)
   unfolding recordEnd
   record-back {at} {e} r (node {h = h} {n = n} {p = p} l m i) =
@@ -141,7 +120,7 @@ module _ (s : List ℕ) where
       let (b, t, j, m) = records-forth n (r .fits) k in
       (a ++ b, reads-join r t, rw h (next i j), rw h (ap suc m))
 
-  pub records-back : {rs : List Node} {b : List ℕ} {at e : ℕ} → Reads s at e b → Sequence IsRecord rs b →
+  pub records-back : {rs : List NodeRecord} {b : List ℕ} {at e : ℕ} → Reads s at e b → Sequence IsRecord rs b →
       (recordsEnd s (length rs) at ≡ At e) × (records s (length rs) at ≡ rs)
   unfolding recordsEnd records
   records-back r none = (ap At (omega arith), refl)
@@ -152,18 +131,18 @@ module _ (s : List ℕ) where
       (rw g k, rw (g, h, m))
 
 -- the section: a count, which is within the size, and as many records up to the end
-pub shaped-nodes : (s : List ℕ) → shaped s ≡ true → (rs : List Node) × IsNodes rs s
+pub shaped-nodes : (s : List ℕ) → shaped s ≡ true → (rs : List NodeRecord) × IsNodes rs s
 unfolding shaped
 shaped-nodes s = counted (numberAt 8 s 0) refl
   where
     counted : (x : Num) → numberAt 8 s 0 ≡ x →
         onNumber x (λ n. cond (within nodesSize n) (endsAt (recordsEnd s n 8) (length s)) false) false ≡ true →
-        (rs : List Node) × IsNodes rs s
+        (rs : List NodeRecord) × IsNodes rs s
     counted Short h g = not-both g refl
     counted (Value n) h g = sized (within nodesSize n) refl (recordsEnd s n 8) refl g
       where
         sized : (b : Bool) → within nodesSize n ≡ b → (p : Pos) → recordsEnd s n 8 ≡ p →
-            cond b (endsAt p (length s)) false ≡ true → (rs : List Node) × IsNodes rs s
+            cond b (endsAt p (length s)) false ≡ true → (rs : List NodeRecord) × IsNodes rs s
         sized false w p q g = not-both g refl
         sized true w Past q g = not-both g refl
         sized true w (At e) q g =
@@ -173,7 +152,7 @@ shaped-nodes s = counted (numberAt 8 s 0) refl
             let o = nodes {rs = records s n 8} {n = a} (rw z m) (omega arith) (omega arith) i in
             (records s n 8, subst (IsNodes (records s n 8)) (all-reads (reads-join r t)) o)
 
-pub nodes-shaped : {s : List ℕ} {rs : List Node} → IsNodes rs s → (shaped s ≡ true) × (nodesOf s ≡ rs)
+pub nodes-shaped : {s : List ℕ} {rs : List NodeRecord} → IsNodes rs s → (shaped s ≡ true) × (nodesOf s ≡ rs)
 unfolding shaped nodesOf count
 nodes-shaped (nodes {rs = rs} {n = n} {a = a} m l u i) =
     let (p, r, t) = reads-split {b = n} (reads-all (n ++ a)) in

@@ -6,11 +6,12 @@ use mathlib.Core.List.{List, [], _∷_, _++_}
 use native.Mathlib.Omega.{arith}
 use lib.ListN.{length, take, length-append}
 use lib.Seq.{take-all, take-at, drop-at}
-use Rattle.wire.specs.Relations.{Among, here, there, Distinct, Sequence, next}
+use Rattle.wire.specs.Relations.{Sequence, next}
+use Rattle.lists.specs.Among.{Among, here, there, Distinct}
 use Rattle.wire.proofs.Spans.{span-in}
 use Rattle.calculus.specs.Tree.{Tree}
 use Rattle.sizes.specs.Sizes.{nodesSize}
-use Rattle.nodes.specs.Records.{Node, childrenOf, children, nodeHash, hashes}
+use Rattle.nodes.specs.Records.{NodeRecord, childrenOf, children, nodeHash, hashes}
 use Rattle.nodes.proofs.Payloads.{children-none, children-one, children-two}
 use Rattle.nodes.proofs.Children.{at, childrenAt, record-at, one-record}
 use Rattle.soundness.specs.Graph.{Names, names-leaf, names-stem, names-fork}
@@ -33,29 +34,29 @@ one-payload leaf leaf = refl
 one-payload (stem l) (stem m) = refl
 one-payload (fork l m) (fork l′ m′) = refl
 
-pub record-payload : {r : Node} {b : List ℕ} → IsRecord r b → IsPayload (children r) (r .payload)
+pub record-payload : {r : NodeRecord} {b : List ℕ} → IsRecord r b → IsPayload (children r) (r .payload)
 record-payload (node l m i) = rw (payload-children i) i
 
-each-payload : {r : Node} {rs : List Node} {b : List ℕ} → Sequence IsRecord rs b → Among r rs →
+each-payload : {r : NodeRecord} {rs : List NodeRecord} {b : List ℕ} → Sequence IsRecord rs b → Among r rs →
     IsPayload (children r) (r .payload)
 each-payload (next i s) here = record-payload i
 each-payload (next i s) (there a) = each-payload s a
 
-pub node-payload : {r : Node} {rs : List Node} {s : List ℕ} → IsNodes rs s → Among r rs → IsPayload (children r) (r .payload)
+pub node-payload : {r : NodeRecord} {rs : List NodeRecord} {s : List ℕ} → IsNodes rs s → Among r rs → IsPayload (children r) (r .payload)
 node-payload (nodes n l m q) a = each-payload q a
 
-pub payload-at : {rs : List Node} {s : List ℕ} → IsNodes rs s → (i : ℕ) → i < length rs →
+pub payload-at : {rs : List NodeRecord} {s : List ℕ} → IsNodes rs s → (i : ℕ) → i < length rs →
     IsPayload (childrenAt rs i) (at rs i .payload)
 payload-at {rs} are i l = node-payload are (record-at rs i l)
 
-pub some-nodes : {rs : List Node} {s : List ℕ} → IsNodes rs s → 0 < length rs
+pub some-nodes : {rs : List NodeRecord} {s : List ℕ} → IsNodes rs s → 0 < length rs
 some-nodes (nodes n l m q) = omega arith
 
-pub few-nodes : {rs : List Node} {s : List ℕ} → IsNodes rs s → length rs ≤ nodesSize .most
+pub few-nodes : {rs : List NodeRecord} {s : List ℕ} → IsNodes rs s → length rs ≤ nodesSize .most
 few-nodes (nodes n l m q) = m
 
-module _ (rs : List Node) (hashed : Hashed rs) where
-  same-hash : (r q : Node) {cs : List (List ℕ)} → Among r rs → Among q rs → IsPayload cs (r .payload) →
+module _ (rs : List NodeRecord) (hashed : Hashed rs) where
+  same-hash : (r q : NodeRecord) {cs : List (List ℕ)} → Among r rs → Among q rs → IsPayload cs (r .payload) →
       IsPayload cs (q .payload) → r .hash ≡ q .hash
   unfolding nodeHash
   same-hash r q a b i j = hashed r a ∙ ap nodeHash (one-payload i j) ∙ sym (hashed q b)
@@ -67,6 +68,6 @@ module _ (rs : List Node) (hashed : Hashed rs) where
   one-hash (names-fork {r = r} i e k n o) (names-fork {r = q} j f l m p) =
       sym e ∙ same-hash r q i j k (rw (one-hash n m, one-hash o p) l) ∙ f
 
-  pub one-leaf : Distinct (hashes rs) → (r q : Node) → Among r rs → Among q rs → IsPayload [] (r .payload) →
+  pub one-leaf : Distinct (hashes rs) → (r q : NodeRecord) → Among r rs → Among q rs → IsPayload [] (r .payload) →
       IsPayload [] (q .payload) → r ≡ q
   one-leaf apart r q a b i j = one-record rs apart a b (same-hash r q a b i j)

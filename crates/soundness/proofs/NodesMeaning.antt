@@ -4,27 +4,17 @@ use native.Mathlib.Omega.{arith}
 use lib.ListN.{length}
 use Rattle.nodes.specs.Records.{children, nodeHash}
 use Rattle.nodes.specs.Links.{placedOf}
-use Rattle.soundness.specs.NodesMeaning.{
-  ShapedExactly,
-  ReadsNodes,
-  ReadsChildren,
-  HashedBytes,
-  LongestReached,
-  HashedExactly,
-  DistinctExactly,
-  ClosedExactly,
-  CircularExactly,
-  OneTreeEach,
-  OneHashEach,
-}
+use Rattle.soundness.specs.NodesMeaning.{NodesShapedExactly, ReadsNodes, ReadsChildren, HashedBytes, LongestReached}
+use Rattle.soundness.specs.NodesMeaning.{HashedExactly, DistinctExactly, ClosedExactly, CircularExactly, OneTreeEachHash}
+use Rattle.soundness.specs.NodesMeaning.{OneHashEach}
 use Rattle.soundness.proofs.NodesFormat.{shaped-nodes, nodes-shaped}
-use Rattle.soundness.proofs.NodesTests.{right-exactly, once-exactly, there-exactly}
+use Rattle.nodes.proofs.FaultTests.{right-exactly, once-exactly, there-exactly}
 use Rattle.soundness.proofs.NodesCircles.{short-exactly, circular-iff}
 use Rattle.soundness.proofs.NodesTrees.{one-tree, all-named}
 use Rattle.soundness.proofs.NodesHashes.{payload-children, node-payload, one-hash}
 use Rattle.soundness.proofs.NodesSizes.{payload-length, one-leaf-length}
 
-pub shaped-exactly : ShapedExactly
+pub shaped-exactly : NodesShapedExactly
 shaped-exactly s = (shaped-nodes s, λ h. nodes-shaped (h .1) .0)
 
 pub reads-nodes : ReadsNodes
@@ -60,7 +50,7 @@ closed-exactly s rs are =
 pub circular-exactly : CircularExactly
 circular-exactly s rs are apart closed = circular-iff rs are apart closed
 
-pub one-tree-each : OneTreeEach
+pub one-tree-each : OneTreeEachHash
 one-tree-each s rs are apart closed none r a =
     let whole : placedOf rs .count < length rs → ⊥ = λ l. none (short-exactly rs are apart closed .0 l) in
     let (t, n) = all-named rs are closed (omega arith) a in

@@ -6,38 +6,25 @@ use mathlib.Core.List.{List, [], _∷_}
 use native.Mathlib.Omega.{arith}
 use native.Mathlib.Decide.{ℕ-discrete}
 use lib.ListN.{length, getD, getD-replicate}
-use Rattle.wire.specs.Relations.{Among, here, there, Distinct}
+use Rattle.lists.specs.Among.{Among, here, there, Distinct}
 use Rattle.calculus.specs.Tree.{Tree, leaf, stem, fork}
 use Rattle.sizes.specs.Sizes.{nodesSize}
 use Rattle.placing.specs.Placing.{Placed, ready, put, unplaced, placed}
 use Rattle.placing.proofs.Steps.{placing-keeps}
 use Rattle.placing.proofs.Views.{child-ok}
 use Rattle.placing.proofs.Laid.{unlike, placed-all}
-use Rattle.nodes.specs.Records.{Node, children, hashes}
+use Rattle.nodes.specs.Records.{NodeRecord, children, hashes}
 use Rattle.nodes.specs.Links.{linksOf, placedOf}
 use Rattle.soundness.specs.Graph.{Names, names-leaf, names-stem, names-fork}
 use Rattle.soundness.specs.NodesGrammar.{IsPayload, IsNodes}
 use Rattle.soundness.specs.NodesMeaning.{Closed}
 use Rattle.soundness.proofs.NodesHashes.{payload-children, payload-at, few-nodes}
-use Rattle.nodes.proofs.Children.{
-  at,
-  hashAt,
-  childrenAt,
-  number-of,
-  record-at,
-  links-ok,
-  Kids,
-  none,
-  one,
-  two,
-  kids-view,
-  child-link,
-  one-record,
-}
+use Rattle.nodes.proofs.Children.{at, hashAt, childrenAt, number-of, record-at, links-ok, Kids, none, one, two, kids-view}
+use Rattle.nodes.proofs.Children.{child-link, one-record}
 
-module _ (rs : List Node) (apart : Distinct (hashes rs)) where
+module _ (rs : List NodeRecord) (apart : Distinct (hashes rs)) where
   -- records of one hash have the same children
-  same : {r q : Node} {h : List ℕ} {x y : List (List ℕ)} → Among r rs → Among q rs → r .hash ≡ h → q .hash ≡ h →
+  same : {r q : NodeRecord} {h : List ℕ} {x y : List (List ℕ)} → Among r rs → Among q rs → r .hash ≡ h → q .hash ≡ h →
       IsPayload x (r .payload) → IsPayload y (q .payload) → x ≡ y
   same a b e f k g =
       sym (payload-children k) ∙ ap children (one-record rs apart a b (e ∙ sym f)) ∙ payload-children g
@@ -60,7 +47,7 @@ module _ (rs : List Node) (apart : Distinct (hashes rs)) where
       let o : v ≡ w = cc in
       cc (one-tree {h = x} {t = t} {u = u} a (rw p b), one-tree {h = v} {t = s} {u = z} c (rw o d))
 
-module _ (rs : List Node) {s : List ℕ} (are : IsNodes rs s) (closed : Closed rs) where
+module _ (rs : List NodeRecord) {s : List ℕ} (are : IsNodes rs s) (closed : Closed rs) where
   -- what the placed records' hashes name
   abbrev pub Named : Placed → Type 0
   Named p = (i : ℕ) → i < length rs → 0 < getD (p .slots) i 0 → (t : Tree) × Names rs (hashAt rs i) t
@@ -97,9 +84,9 @@ module _ (rs : List Node) {s : List ℕ} (are : IsNodes rs s) (closed : Closed r
       (λ i l o. absurd (omega (arith, getD-replicate {A = ℕ} (nodesSize .most) i 0 0 (omega (arith, few-nodes are)))))
 
   -- where placing does not stop short
-  pub all-named : length rs ≤ placedOf rs .count → {r : Node} → Among r rs → (t : Tree) × Names rs (r .hash) t
+  pub all-named : length rs ≤ placedOf rs .count → {r : NodeRecord} → Among r rs → (t : Tree) × Names rs (r .hash) t
   unfolding placedOf
   all-named h a =
       let (i, l, e) = number-of a in
-      subst (λ (q : Node). (t : Tree) × Names rs (q .hash) t) e
+      subst (λ (q : NodeRecord). (t : Tree) × Names rs (q .hash) t) e
       (placed-all-named i l (placed-all (linksOf rs) (length rs) (nodesSize .most) (links-ok rs (few-nodes are)) h i l))

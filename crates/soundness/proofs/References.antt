@@ -4,16 +4,16 @@ use mathlib.Core.Path.{_≡_, refl}
 use mathlib.Core.List.{List}
 use mathlib.Core.Bool.{false}
 use mathlib.Core.Logic.{_↔_, Iff·trans}
-use Rattle.wire.specs.Relations.{Among}
+use Rattle.lists.specs.Among.{Among}
 use Rattle.manifest.specs.Content.{Root, Export}
 use Rattle.manifest.specs.Judged.{rootsOf, exportsOf}
-use Rattle.wire.proofs.Some.{any-none, any-more}
-use Rattle.nodes.specs.Records.{Node, hashes, lacks, nodesOf}
-use Rattle.soundness.proofs.NodesTests.{lacks-exactly}
-use Rattle.bundle.specs.References.{rootHashes, exportHashes, unresolved}
+use Rattle.lists.proofs.Some.{any-none, any-more}
+use Rattle.nodes.specs.Records.{NodeRecord, hashes, lacks, nodesOf}
+use Rattle.nodes.proofs.FaultTests.{lacks-exactly}
+use Rattle.references.specs.References.{rootHashes, exportHashes, unresolved}
 use Rattle.soundness.proofs.Each.{each-exactly}
 
-module _ (rs : List Node) where
+module _ (rs : List NodeRecord) where
   roots-exactly : (xs : List Root) →
       (lacks rs (rootHashes xs) ≡ false) ↔ ((r : Root) → Among r xs → Among (r .hash) (hashes rs))
   unfolding rootHashes
@@ -26,7 +26,7 @@ module _ (rs : List Node) where
   exports-exactly xs =
       Iff·trans (lacks-exactly rs _) (each-exactly (λ e. e .hash) exportHashes refl (λ y ys. refl) _ xs)
 
-pub resolved-exactly : (m s : List ℕ) {rs : List Node} {roots : List Root} {exports : List Export} →
+pub resolved-exactly : (m s : List ℕ) {rs : List NodeRecord} {roots : List Root} {exports : List Export} →
     nodesOf s ≡ rs → rootsOf m ≡ roots → exportsOf m ≡ exports →
     (unresolved m s ≡ false) ↔ (((r : Root) → Among r roots → Among (r .hash) (hashes rs)) ×
     ((e : Export) → Among e exports → Among (e .hash) (hashes rs)))

@@ -8,15 +8,15 @@ use native.Mathlib.Omega.{arith}
 use native.Mathlib.Decide.{ℕ-discrete, decLe, map-dec}
 use borrow.Author.Tests.{not-false}
 use lib.ListN.{length}
-use Rattle.wire.specs.Relations.{Among, Distinct}
-use Rattle.wire.proofs.Tests.{not-exactly}
+use Rattle.lists.specs.Among.{Among, Distinct}
+use Rattle.lists.proofs.Tests.{not-exactly}
 use Rattle.sizes.specs.Sizes.{nameSize}
 use Rattle.manifest.specs.Content.{Root, Export}
 use Rattle.manifest.specs.Judged.{Wanted, exactly, anyText, abiName, nineStrings, malformed, unsupported, misnamed}
-use Rattle.nodes.specs.declared.faults.Fault.the-variants.{Hash, Twice, Child}
-use Rattle.nodes.specs.Records.{Node, children, nodeHash, hashes, shaped, someFaulty}
+use Rattle.nodes.specs.declared.faults.RecordFault.the-variants.{Hash, Twice, Child}
+use Rattle.nodes.specs.Records.{NodeRecord, children, nodeHash, hashes, shaped, someRecord}
 use Rattle.nodes.specs.Links.{circular}
-use Rattle.bundle.specs.References.{unresolved}
+use Rattle.references.specs.References.{unresolved}
 use Rattle.bundle.specs.Checks.{manifestChecks, nodeChecks}
 use Rattle.soundness.specs.FileGrammar.{SectionOf}
 use Rattle.soundness.specs.ManifestGrammar.{Contents, head, IsManifest, manifest}
@@ -142,18 +142,18 @@ module _ (file s : List ℕ) (is : SectionOf file 2 s) (only : (t : List ℕ) �
   row-15 : (not (shaped s) ≡ true) ↔ Applies file 15
   row-15 = row-exactly _ (not-exactly _ (nodes-exactly s)) (λ n. nodes-shape is (λ rs i. n (rs, i))) clash
     where
-      clash : Applies file 15 → (rs : List Node) × IsNodes rs s → ⊥
+      clash : Applies file 15 → (rs : List NodeRecord) × IsNodes rs s → ⊥
       clash (nodes-shape k n) (rs, i) = n rs (subst (IsNodes rs) (only _ k) i)
 
-  module _ (rs : List Node) (i : IsNodes rs s) where
+  module _ (rs : List NodeRecord) (i : IsNodes rs s) where
     the-nodes : HasNodes file rs
     the-nodes = rows.nodes is i
 
-    one-nodes : {ts : List Node} → HasNodes file ts → ts ≡ rs
+    one-nodes : {ts : List NodeRecord} → HasNodes file ts → ts ≡ rs
     one-nodes {ts} (rows.nodes k j) =
         sym (reads-nodes s ts (subst (IsNodes ts) (sym (only _ k)) j)) ∙ reads-nodes s rs i
 
-    row-16 : (someFaulty Hash rs rs ≡ true) ↔ Applies file 16
+    row-16 : (someRecord Hash rs rs ≡ true) ↔ Applies file 16
     unfolding nodeHash
     row-16 = row-exactly _ (hashed-exactly rs) fault clash
       where
@@ -166,19 +166,19 @@ module _ (file s : List ℕ) (is : SectionOf file 2 s) (only : (t : List ℕ) �
         clash : Applies file 16 → Hashed rs → ⊥
         clash (hash {r = r} k a n) h = n (h r (rw (one-nodes k) at a))
 
-    row-17 : (someFaulty Twice rs rs ≡ true) ↔ Applies file 17
+    row-17 : (someRecord Twice rs rs ≡ true) ↔ Applies file 17
     row-17 = row-exactly _ (distinct-exactly rs) (hash-twice the-nodes) clash
       where
         clash : Applies file 17 → Distinct (hashes rs) → ⊥
         clash (hash-twice k n) d = n (rw (one-nodes k) d)
 
-    abbrev There : Node → Type 0
+    abbrev There : NodeRecord → Type 0
     There r = (h : List ℕ) → Among h (children r) → Among h (hashes rs)
 
     dec-child : (h : List ℕ) → Dec (Among h (hashes rs))
     dec-child h = dec-among h (hashes rs)
 
-    row-18 : (someFaulty Child rs rs ≡ true) ↔ Applies file 18
+    row-18 : (someRecord Child rs rs ≡ true) ↔ Applies file 18
     row-18 = row-exactly _ (closed-exactly s rs i) fault clash
       where
         fault : (Closed rs → ⊥) → Applies file 18

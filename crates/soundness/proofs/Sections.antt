@@ -3,8 +3,8 @@ use Prim.Native.Nat.{ℕ}
 use mathlib.Core.Path.{_≡_, sym, subst, _∙_}
 use mathlib.Core.List.{List}
 use Rattle.manifest.specs.Judged.{exportsOf}
-use Rattle.nodes.specs.Records.{Node, nodesOf}
-use Rattle.bundle.specs.Directory.{entries, entryOf, section, manifestSection, nodesSection}
+use Rattle.nodes.specs.Records.{NodeRecord, nodesOf}
+use Rattle.container.specs.Directory.{entries, entryOf, section, manifestSection, nodesSection}
 use Rattle.soundness.specs.FileGrammar.{HasDirectory, listed, SectionOf, Occurs, OccursAgain}
 use Rattle.soundness.specs.ManifestGrammar.{Contents, IsManifest}
 use Rattle.soundness.specs.NodesGrammar.{IsNodes}
@@ -58,7 +58,7 @@ module _ {file : List ℕ} (d : Described file) where
       subst (SectionOf file 2) (sym (section-only file 2 single-nodes _ there)) there
 
   -- and no others are
-  pub one-nodes : {rs : List Node} → HasNodes file rs → nodesOf (nodesSection file) ≡ rs
+  pub one-nodes : {rs : List NodeRecord} → HasNodes file rs → nodesOf (nodesSection file) ≡ rs
   one-nodes {rs} (nodes k i) =
       reads-nodes (nodesSection file) rs (subst (IsNodes rs) (sym (section-only file 2 single-nodes _ k)) i)
 

@@ -6,10 +6,10 @@ use mathlib.Core.Logic.{_↔_, Iff·rfl, Iff·symm, Iff·and, _⊎_, inl, inr}
 use native.Mathlib.Omega.{arith}
 use native.Mathlib.Decide.{ℕ-discrete}
 use borrow.Author.Tests.{ne-eqb}
-use Rattle.wire.specs.Relations.{Among}
+use Rattle.lists.specs.Among.{Among}
 use Rattle.wire.proofs.Spans.{span-none}
-use Rattle.nodes.specs.Records.{Node}
-use Rattle.bundle.specs.Directory.{manifestSection, nodesSection}
+use Rattle.nodes.specs.Records.{NodeRecord}
+use Rattle.container.specs.Directory.{manifestSection, nodesSection}
 use Rattle.bundle.specs.Checks.{nameRefusal, refusal}
 use Rattle.bundle.specs.Exports.{manifestStart, nameAt, namePart, nameCall, indexCall}
 use Rattle.soundness.specs.FileGrammar.{Header, HasHeader, starts, Entry, HasDirectory, goes-on, HasEntry, listed, SectionOf}
@@ -69,7 +69,7 @@ module _ {file other : List ℕ} (r : ReadAlike file other) where
   pub manifest-alike : {m : Contents} → HasManifest file m → HasManifest other m
   manifest-alike (manifest k i) = manifest (section-alike (inl refl) k) i
 
-  pub nodes-alike : {rs : List Node} → HasNodes file rs → HasNodes other rs
+  pub nodes-alike : {rs : List NodeRecord} → HasNodes file rs → HasNodes other rs
   nodes-alike (nodes k i) = nodes (section-alike (inr refl) k) i
 
   -- so what applies to the one applies to the other

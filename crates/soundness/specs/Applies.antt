@@ -7,23 +7,13 @@ use mathlib.Core.List.{List, []}
 use mathlib.Core.Logic.{_↔_, _⊎_}
 use lib.ListN.{length}
 use Rattle.wire.specs.Wire.{ascii}
-use Rattle.wire.specs.Relations.{Among, Distinct}
+use Rattle.lists.specs.Among.{Among, Distinct}
 use Rattle.sha256_block.specs.Fips180.{sha256}
 use Rattle.manifest.specs.Content.{Root, Export, names}
-use Rattle.nodes.specs.Records.{Node, hashes}
+use Rattle.nodes.specs.Records.{NodeRecord, hashes}
 use Rattle.bundle.specs.Checks.{nameRefusal}
-use Rattle.soundness.specs.FileGrammar.{
-  Header,
-  HasHeader,
-  Entry,
-  HasDirectory,
-  HasEntry,
-  IsSection,
-  Known,
-  Occurs,
-  OccursAgain,
-  SectionOf,
-}
+use Rattle.soundness.specs.FileGrammar.{Header, HasHeader, Entry, HasDirectory, HasEntry, IsSection, Known, Occurs}
+use Rattle.soundness.specs.FileGrammar.{OccursAgain, SectionOf}
 use Rattle.soundness.specs.ManifestGrammar.{Contents, IsManifest}
 use Rattle.soundness.specs.ManifestMeaning.{NineStrings}
 use Rattle.soundness.specs.NodesGrammar.{IsPayload, IsNodes}
@@ -34,7 +24,7 @@ use Rattle.soundness.specs.Graph.{Circle}
 pub data HasManifest (file : List ℕ) (m : Contents) : Type 0 where
   manifest : {s : List ℕ} → SectionOf file 1 s → IsManifest m s → HasManifest file m
 
-pub data HasNodes (file : List ℕ) (rs : List Node) : Type 0 where
+pub data HasNodes (file : List ℕ) (rs : List NodeRecord) : Type 0 where
   nodes : {s : List ℕ} → SectionOf file 2 s → IsNodes rs s → HasNodes file rs
 
 pub data Applies (file : List ℕ) : ℕ → Type 0 where
@@ -74,19 +64,19 @@ pub data Applies (file : List ℕ) : ℕ → Type 0 where
       (length (e .name) < 1) ⊎ (64 < length (e .name)) → Applies file 14
   name-twice : {m : Contents} → HasManifest file m → (Distinct (names (m .exports)) → ⊥) → Applies file 14
   -- the nodes section doesn't have the stated shape, or count outside 1 to 512
-  nodes-shape : {s : List ℕ} → SectionOf file 2 s → ((rs : List Node) → IsNodes rs s → ⊥) → Applies file 15
+  nodes-shape : {s : List ℕ} → SectionOf file 2 s → ((rs : List NodeRecord) → IsNodes rs s → ⊥) → Applies file 15
   -- a record's hash is wrong / two records carry the same hash
-  hash : {rs : List Node} {r : Node} → HasNodes file rs → Among r rs →
+  hash : {rs : List NodeRecord} {r : NodeRecord} → HasNodes file rs → Among r rs →
       (r .hash ≡ sha256 (hashInput (r .payload)) → ⊥) → Applies file 16
-  hash-twice : {rs : List Node} → HasNodes file rs → (Distinct (hashes rs) → ⊥) → Applies file 17
+  hash-twice : {rs : List NodeRecord} → HasNodes file rs → (Distinct (hashes rs) → ⊥) → Applies file 17
   -- a child has no record / a node is its own descendant
-  child : {rs : List Node} {r : Node} {cs : List (List ℕ)} {h : List ℕ} → HasNodes file rs → Among r rs →
+  child : {rs : List NodeRecord} {r : NodeRecord} {cs : List (List ℕ)} {h : List ℕ} → HasNodes file rs → Among r rs →
       IsPayload cs (r .payload) → Among h cs → (Among h (hashes rs) → ⊥) → Applies file 18
-  circle : {rs : List Node} → HasNodes file rs → Circle rs → Applies file 19
+  circle : {rs : List NodeRecord} → HasNodes file rs → Circle rs → Applies file 19
   -- a root's or export's hash has no record
-  root : {m : Contents} {rs : List Node} {r : Root} → HasManifest file m → HasNodes file rs → Among r (m .roots) →
+  root : {m : Contents} {rs : List NodeRecord} {r : Root} → HasManifest file m → HasNodes file rs → Among r (m .roots) →
       (Among (r .hash) (hashes rs) → ⊥) → Applies file 20
-  export : {m : Contents} {rs : List Node} {e : Export} → HasManifest file m → HasNodes file rs → Among e (m .exports) →
+  export : {m : Contents} {rs : List NodeRecord} {e : Export} → HasManifest file m → HasNodes file rs → Among e (m .exports) →
       (Among (e .hash) (hashes rs) → ⊥) → Applies file 20
 
 -- a number that applies, and no smaller one does

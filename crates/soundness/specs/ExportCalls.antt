@@ -3,11 +3,12 @@ use Prim.Native.Nat.{ℕ, _+_, _≤_, _<_}
 use mathlib.Core.Path.{_≡_}
 use mathlib.Core.List.{List, [], _++_}
 use lib.ListN.{length, getD, take}
-use Rattle.wire.specs.Relations.{Number, Sequence, Among}
+use Rattle.wire.specs.Relations.{Number, Sequence}
+use Rattle.lists.specs.Among.{Among}
 use Rattle.manifest.specs.Content.{names}
-use Rattle.bundle.specs.declared.exports.Part.{Part}
+use Rattle.wire.specs.declared.Part.{Part}
 use Rattle.bundle.specs.declared.exports.IndexAnswer.the-variants.{Refused}
-use Rattle.bundle.specs.Exports.{namePart, nameCall, indexCall, IndexNumbers, numbers}
+use Rattle.bundle.specs.Exports.{namePart, nameCall, indexCall, IndexNumbers, indexNumbers}
 use Rattle.soundness.specs.FileGrammar.{SectionOf}
 use Rattle.soundness.specs.ManifestGrammar.{Contents, IsHead, IsExport}
 use Rattle.soundness.specs.Sound.{Described}
@@ -66,7 +67,7 @@ IndexCall = List ℕ → List ℕ → IndexNumbers
 
 -- those of this one
 abbrev pub index : IndexCall
-index file name = numbers (indexCall file name)
+index file name = indexNumbers (indexCall file name)
 
 -- in a described file the index by name is that of the export with that name
 abbrev pub IndexByName : IndexCall → Type 0

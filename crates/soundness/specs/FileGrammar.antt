@@ -5,7 +5,8 @@ use mathlib.Core.Path.{_≡_}
 use mathlib.Core.List.{List, _∷_, _++_}
 use mathlib.Core.Logic.{_⊎_}
 use lib.ListN.{length}
-use Rattle.wire.specs.Relations.{Number, Sequence, Among}
+use Rattle.wire.specs.Relations.{Number, Sequence}
+use Rattle.lists.specs.Among.{Among}
 
 -- what a header says
 pub record Header : Type 0 where

@@ -5,9 +5,9 @@ use mathlib.Core.List.{List, [], _∷_, _++_, map}
 use mathlib.Core.Logic.{_↔_}
 use lib.ListN.{length}
 use Rattle.wire.specs.Wire.{bigEndian}
-use Rattle.bundle.specs.declared.directory.Entry.{Entry as Read}
-use Rattle.bundle.specs.Header.{sectionCount, directoryOffset}
-use Rattle.bundle.specs.Directory.{digestOf, entries, section}
+use Rattle.container.specs.declared.directory.DirectoryEntry.{DirectoryEntry as Read}
+use Rattle.container.specs.Header.{sectionCount, directoryOffset}
+use Rattle.container.specs.Directory.{digestOf, entries, section}
 use Rattle.soundness.specs.FileGrammar.{Header, HasHeader, Entry, HasDirectory, IsSection, OccursOnce, SectionOf}
 
 -- "Numbers in a bundle are big-endian": with a byte more at the end a number is 256 times as much, and the byte

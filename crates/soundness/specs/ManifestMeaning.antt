@@ -6,7 +6,7 @@ use mathlib.Core.Logic.{_↔_}
 use mathlib.Core.List.{List, [], _∷_}
 use lib.ListN.{length}
 use Rattle.wire.specs.Wire.{ascii}
-use Rattle.wire.specs.Relations.{Among, Distinct}
+use Rattle.lists.specs.Among.{Among, Distinct}
 use Rattle.manifest.specs.Content.{Export, names}
 use Rattle.manifest.specs.Judged.{malformed, unsupported, misnamed, rootsOf, exportsOf}
 use Rattle.soundness.specs.ManifestGrammar.{Contents, IsManifest}
@@ -32,8 +32,8 @@ pub record Named (m : Contents) : Type 0 where
   pub distinct : Distinct (names (m .exports))
 
 -- 12 does not hold exactly for the bytes of a manifest
-abbrev pub ShapedExactly : Type 0
-ShapedExactly = (s : List ℕ) → (malformed s ≡ false) ↔ ((m : Contents) × IsManifest m s)
+abbrev pub ManifestShapedExactly : Type 0
+ManifestShapedExactly = (s : List ℕ) → (malformed s ≡ false) ↔ ((m : Contents) × IsManifest m s)
 
 -- nor 13 where it is supported, nor 14 where its exports are named
 abbrev pub SupportedExactly : Type 0

@@ -4,9 +4,9 @@ use mathlib.Core.Path.{_≡_}
 use mathlib.Core.Logic.{_↔_}
 use mathlib.Core.List.{List}
 use lib.ListN.{length}
-use Rattle.wire.specs.Relations.{Among}
+use Rattle.lists.specs.Among.{Among}
 use Rattle.calculus.specs.Tree.{Tree}
-use Rattle.nodes.specs.Records.{Node}
+use Rattle.nodes.specs.Records.{NodeRecord}
 use Rattle.soundness.specs.Graph.{Names}
 use Rattle.bundle.specs.Checks.{refusal}
 use Rattle.soundness.specs.Sound.{Described, Sound}
@@ -30,7 +30,7 @@ OnlyCheck = (call : List ℕ → ℕ) → NumberExactly call → (file : List �
 -- in a sound file the hash of every record names exactly one tree
 abbrev pub OneTreeEach : Type 0
 OneTreeEach =
-    (file : List ℕ) (sound : Sound file) (r : Node) → Among r (sound .nodes) →
+    (file : List ℕ) (sound : Sound file) (r : NodeRecord) → Among r (sound .nodes) →
     (t : Tree) × Names (sound .nodes) (r .hash) t × ((u : Tree) → Names (sound .nodes) (r .hash) u → u ≡ t)
 
 -- "the longest nodes section is 8 + 37 + 511 × 101 = 51,656 bytes": no sound file has a longer one

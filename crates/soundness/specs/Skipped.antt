@@ -5,7 +5,7 @@ use mathlib.Core.Path.{_≡_}
 use mathlib.Core.List.{List, _++_}
 use mathlib.Core.Logic.{_↔_, _⊎_}
 use lib.ListN.{length}
-use Rattle.wire.specs.Relations.{Among}
+use Rattle.lists.specs.Among.{Among}
 use Rattle.bundle.specs.Checks.{refusal}
 use Rattle.bundle.specs.Exports.{namePart, nameCall, indexCall}
 use Rattle.soundness.specs.FileGrammar.{Header, Entry, HasDirectory, IsSection, Known}

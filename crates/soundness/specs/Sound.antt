@@ -5,10 +5,10 @@ use mathlib.Core.Path.{_≡_}
 use mathlib.Core.List.{List}
 use lib.ListN.{length}
 use Rattle.wire.specs.Wire.{ascii}
-use Rattle.wire.specs.Relations.{Among, Distinct}
+use Rattle.lists.specs.Among.{Among, Distinct}
 use Rattle.sha256_block.specs.Fips180.{sha256}
 use Rattle.manifest.specs.Content.{Root, Export}
-use Rattle.nodes.specs.Records.{Node, hashes}
+use Rattle.nodes.specs.Records.{NodeRecord, hashes}
 use Rattle.soundness.specs.FileGrammar.{Header, Entry, HasDirectory, IsSection, SectionOf, Known, OccursOnce}
 use Rattle.soundness.specs.ManifestGrammar.{Contents, IsManifest}
 use Rattle.soundness.specs.ManifestMeaning.{Supported, Named}
@@ -53,7 +53,7 @@ pub record Described (file : List ℕ) : Type 0 where
 -- what 1 to 20 ask of a file: its nodes too, and that every root and export is one of them
 pub record Sound (file : List ℕ) : Type 0 where
   pub described : Described file
-  pub nodes : List Node
+  pub nodes : List NodeRecord
   -- the section of type 2
   pub nodes-bytes : List ℕ
   pub nodes-section : SectionOf file 2 nodes-bytes

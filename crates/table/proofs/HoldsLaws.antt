@@ -152,7 +152,7 @@ module _ (w : List ℕ) (n : ℕ) where
       subst (λ (i : ℕ). Holds w n i t) d (h .0)
   from-at k (suc i) m (t ∷ ts) e l h = from-at (suc k) i m ts (omega arith) (omega arith) (h .1)
 
-  -- two lists, one behind the other
+  -- two lists, one after the other
   pub from-append : (k m : ℕ) (ts us : List Tree) → k + length ts ≡ m → HoldsFrom w n k ts → HoldsFrom w n m us
       → HoldsFrom w n k (ts ++ us)
   from-append k m [] us e h g =
@@ -166,7 +166,7 @@ pub from-kept : {w v : List ℕ} {n m : ℕ} → Kept w n v m →
 from-kept kept k [] h = tt
 from-kept kept k (t ∷ ts) h = (kept k t (h .0), from-kept kept (suc k) ts (h .1))
 
--- two stretches of written slots, one behind the other
+-- two stretches of written slots, one after the other
 pub untouched-trans : {w v u : List ℕ} {n m k : ℕ} → n ≤ m → m ≤ k →
     Untouched w n v m → Untouched v m u k → Untouched w n u k
 untouched-trans l r a b =

@@ -1,11 +1,9 @@
 pub mod Tests
 pub mod Tail
+pub mod BaseLaws
 pub mod Signed
 pub mod SlotWays
 pub mod SlotLaws
 pub mod SoundTest
 pub mod SoundLaws
-pub mod FrameLaws
 pub mod HoldsLaws
-pub mod SoundFrames
-pub mod FramesTest

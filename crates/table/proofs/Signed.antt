@@ -24,10 +24,18 @@ plain-fits (pos n) f e =
     (tt, record { fits = omega (arith, f .sfits) }, record { fits = omega (arith, f .sfits) })
 plain-fits (negsuc n) f e = absurd (subst (λ (b : Bool). T b) e tt)
 
+natural-fits : (z : ℤ) → SFits w32 z → z ≡ pos (natAbs z) → T (nonNeg z) × Fits w64 (natAbs z)
+natural-fits (pos n) f e = (tt, record { fits = omega (arith, f .sfits) })
+natural-fits (negsuc n) f e = absurd (let z : _≡_ {A = ℕ} 0 1 = cc in omega arith)
+
 module _ (z : ℤ) (f : SFits w32 z) where
   -- a signed argument of a call is read back from its bits
   pub as-passed : toZ w32 (ofZ w32 z) ≡ z
   as-passed = toZ-ofZ w32 z f
+
+  -- a number that is not negative may be cast to usize
+  pub cast-natural : z ≡ pos (natAbs z) → T (nonNeg (toZ w32 (ofZ w32 z))) × Fits w64 (natAbs (toZ w32 (ofZ w32 z)))
+  cast-natural e = rw as-passed (natural-fits z f e)
 
   -- the test `z < 0` holds of negative numbers alone
   pub below-zero : ltZ (toZ w32 (ofZ w32 z)) (pos 0) ≡ true → (n : ℕ) × (z ≡ negsuc n)

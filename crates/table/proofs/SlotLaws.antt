@@ -1,7 +1,7 @@
 -- Laws of slots: what a slot holds after a node was written, and which numbers name a slot.
 use Prim.Native.Nat.{ℕ, _+_, _*_, _/_, _%_, _≤_, _<_}
 use mathlib.Core.Path.{_≡_, refl, sym, ap, _∙_}
-use mathlib.Core.Bool.{Bool, true, false, cond}
+use mathlib.Core.Bool.{true, false, false≢true}
 use mathlib.Core.List.{List}
 use mathlib.Core.Logic.{inl, inr}
 use native.Mathlib.Omega.{arith}
@@ -10,14 +10,13 @@ use native.Mathlib.Decide.{decLt, ℕ-discrete}
 use lib.ListN.{length, getD, length-set}
 use lib.Seq.{getD-set-same, getD-set-other}
 use lib.Dec.{ltb}
-use lib.IntN.{ℤ, pos, negsuc}
+use lib.IntN.{ℤ, pos, negsuc, natAbs}
 use borrow.Author.Tests.{lt-ltb, le-ltb, ltb-true}
 use Rattle.table.specs.declared.slots.Slot.{Slot}
-use Rattle.table.specs.declared.slots.Place.the-variants.{At, Nowhere}
 use Rattle.table.specs.declared.slots.Node.{Node}
 use Rattle.table.specs.declared.slots.Node.the-variants.{Leaf, Stem, Fork}
 use Rattle.table.specs.Limits.{maxSlots, atMost}
-use Rattle.table.specs.Slots.{width, slot, room, RoomIs, place, firstWord, secondWord, firstAt, secondAt}
+use Rattle.table.specs.Slots.{width, slot, room, RoomIs, isUsed, firstWord, secondWord, firstAt, secondAt}
 use Rattle.table.specs.Slots.{putWords, nodeAt, putNode, SameSlots}
 use Rattle.table.specs.Holds.{Words}
 
@@ -109,38 +108,25 @@ module _ (w : List ℕ) (i : ℕ) (n : Node) where
   unfolding nodeAt firstAt secondAt
   node-other k h = rw (first-other k h, second-other k h)
 
--- a number below the used slots names its slot
-pub place-in : {z : ℤ} {n used : ℕ} → z ≡ pos n → n < used → At (slot n) ≡ place z used
-unfolding place
-place-in e h = rw e (simp (lt-ltb _ _ h))
+pub used-natural : {z : ℤ} {n : ℕ} (used : ℕ) → z ≡ pos n → ltb n used ≡ isUsed z used
+unfolding isUsed
+used-natural used e = rw e
 
--- one that is not below them, and a negative one, name none
-pub place-out : {z : ℤ} {n used : ℕ} → z ≡ pos n → used ≤ n → Nowhere ≡ place z used
-unfolding place
-place-out e h = rw e (simp (le-ltb _ _ h))
+-- a number below the used slots names one of them
+pub used-in : {z : ℤ} {n used : ℕ} → z ≡ pos n → n < used → isUsed z used ≡ true
+unfolding isUsed
+used-in e h = rw e (lt-ltb _ _ h)
 
-pub place-negative : {z : ℤ} (used : ℕ) → (n : ℕ) × (z ≡ negsuc n) → Nowhere ≡ place z used
-unfolding place
-place-negative used p = rw (p .1)
+-- a negative number does not
+pub used-negative : {z : ℤ} (used : ℕ) → (n : ℕ) × (z ≡ negsuc n) → false ≡ isUsed z used
+unfolding isUsed
+used-negative used p = rw (p .1)
 
--- a number that names a slot is below the used ones, and is that slot's
-pub place-at : (z : ℤ) (used : ℕ) (s : Slot) → place z used ≡ At s → (z ≡ pos (s .0)) × (s .0 < used)
-unfolding place
-place-at (pos n) used s = go (ltb n used) refl
-  where
-    go : (b : Bool) → ltb n used ≡ b → cond b (At (slot n)) Nowhere ≡ At s → (pos n ≡ pos (s .0)) × (s .0 < used)
-    go true h e =
-        let q : slot n ≡ s = cc in
-        let r : n ≡ s .0 = ap (λ (x : Slot). x .0) q in
-        (ap pos r, let l : n < used = ltb-true n used h in omega arith)
-    go false h e = let z : _≡_ {A = ℕ} 0 1 = cc in absurd (omega arith)
-place-at (negsuc n) used s = λ e. let z : _≡_ {A = ℕ} 0 1 = cc in absurd (omega arith)
-
-pub place-is : (z : ℤ) (used : ℕ) (s : Slot) → place z used ≡ At s → z ≡ pos (s .0)
-place-is z used s e = place-at z used s e .0
-
-pub place-below : (z : ℤ) (used : ℕ) (s : Slot) → place z used ≡ At s → s .0 < used
-place-below z used s e = place-at z used s e .1
+-- what does is a slot's number, and below them
+pub used-slot : (z : ℤ) (used : ℕ) → isUsed z used ≡ true → (z ≡ pos (natAbs z)) × (natAbs z < used)
+unfolding isUsed
+used-slot (pos n) used e = (refl, ltb-true n used e)
+used-slot (negsuc n) used e = absurd (false≢true e)
 
 -- tables with the same words in the first n slots
 module _ {n : ℕ} (w v : List ℕ) (same : SameSlots n w v) where

@@ -14,7 +14,7 @@ use Rattle.table.specs.declared.slots.Node.{Node}
 use Rattle.table.specs.declared.slots.Node.the-variants.{Leaf, Stem, Fork}
 use Rattle.table.specs.Slots.{room, firstWord, secondWord, firstAt, secondAt, nodeOf, nodeAt, putNode, Below}
 use Rattle.table.specs.Slots.{SameSlots}
-use Rattle.table.specs.Sound.{slotSound, soundAt, sound, Sound, SoundSlot, SoundSlots, SlotsSoundExactly}
+use Rattle.table.specs.Sound.{slotSound, soundAt, sound, SlotsPass, SoundSlot, SoundSlots, SlotsSoundExactly}
 use Rattle.table.proofs.SlotLaws.{in-room, Has, room-put, put-here, first-other, second-other}
 
 pub both-true : (a b : Bool) → a && b ≡ true → (a ≡ true) × (b ≡ true)
@@ -166,7 +166,7 @@ sound-put w n node e l b h =
     rw (add-one, sound, sound-under w n node n (omega arith), e, slot-sound (putNode w n node) n .1 s)
 
 -- a node in the next slot, its children below: the used slots are sound with it
-pub sound-next : (w : List ℕ) (n : ℕ) (node : Node) → Sound w n → n < room w → Below n node →
-    (node ≡ Leaf → ⊥) → Sound (putNode w n node) (n + 1)
+pub sound-next : (w : List ℕ) (n : ℕ) (node : Node) → SlotsPass w n → n < room w → Below n node →
+    (node ≡ Leaf → ⊥) → SlotsPass (putNode w n node) (n + 1)
 sound-next w n node s l b h =
     record { fits = rw (room-put w n node) (omega arith); sound = sound-put w n node (s .sound) l b h }

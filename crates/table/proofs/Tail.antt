@@ -1,4 +1,4 @@
--- The part of a table from a place on: `&mut w[n..]` is lent as `drop n w`, and comes back behind `take n w`.
+-- The part of a table from a place on: `&mut w[n..]` is lent as `drop n w`, and comes back after `take n w`.
 use Prim.Native.Nat.{ℕ, _-_, _≤_}
 use mathlib.Core.Path.{_≡_, ap, _∙_}
 use mathlib.Core.List.{List, _++_, append-nil}

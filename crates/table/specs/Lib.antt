@@ -1,6 +1,5 @@
 pub mod Limits
+pub mod Base
 pub mod Slots
 pub mod Sound
-pub mod Frames
 pub mod Holds
-pub mod SoundFrames

@@ -1,15 +1,13 @@
 -- Slots: slot i of the part of the table that is ours is its words 2i and 2i + 1.
 use Prim.Native.Nat.{ℕ, zero, suc, _+_, _*_, _/_, _≤_, _<_}
 use mathlib.Core.Path.{_≡_}
-use mathlib.Core.Bool.{cond}
+use mathlib.Core.Bool.{Bool, false}
 use mathlib.Core.List.{List}
 use mathlib.Core.Logic.{_⊎_}
 use lib.ListN.{length, getD, set}
 use lib.Dec.{ltb}
-use lib.IntN.{ℤ, pos, negsuc}
+use lib.IntN.{ℤ, pos, negsuc, natAbs}
 use Rattle.table.specs.declared.slots.Slot.{Slot}
-use Rattle.table.specs.declared.slots.Place.{Place}
-use Rattle.table.specs.declared.slots.Place.the-variants.{At, Nowhere}
 use Rattle.table.specs.declared.slots.Node.{Node}
 use Rattle.table.specs.declared.slots.Node.the-variants.{Leaf, Stem, Fork}
 use Rattle.table.specs.Limits.{maxSlots, atMost}
@@ -29,10 +27,14 @@ room w = atMost maxSlots (length w / width)
 abbrev pub RoomIs : Type 0
 RoomIs = (w : List ℕ) → (2 * room w ≤ length w) × (room w ≤ 65535) × ((room w ≡ 65535) ⊎ (length w < 2 * room w + 2))
 
--- the slot of that number among the first `used`; a negative number names none
-unfoldable pub place : ℤ → ℕ → Place
-place (pos n) used = cond (ltb n used) (At (slot n)) Nowhere
-place (negsuc n) used = Nowhere
+-- a number names one of the first `used` slots; a negative one names none
+unfoldable pub isUsed : ℤ → ℕ → Bool
+isUsed (pos n) used = ltb n used
+isUsed (negsuc n) used = false
+
+-- the slot that a number names
+abbrev pub namedSlot : ℤ → Slot
+namedSlot z = slot (natAbs z)
 
 -- leaf is (0, 0); a stem on slot a is (a + 1, 0); a fork of a and b is (a + 1, b + 1)
 abbrev pub firstWord : Node → ℕ

@@ -27,7 +27,7 @@ sound w zero = true
 sound w (suc i) = sound w i && soundAt w i
 
 -- the first n slots of a table, within its room, sound: what a run works on
-pub record Sound (w : List ℕ) (n : ℕ) : Type 0 where
+pub record SlotsPass (w : List ℕ) (n : ℕ) : Type 0 where
   pub fits : n ≤ room w
   pub sound : sound w n ≡ true
 
@@ -45,7 +45,7 @@ pub record SoundSlots (w : List ℕ) (n : ℕ) : Type 0 where
 
 -- The test says just that.
 abbrev pub SlotsSoundExactly : Type 0
-SlotsSoundExactly = (w : List ℕ) (n : ℕ) → Sound w n ↔ SoundSlots w n
+SlotsSoundExactly = (w : List ℕ) (n : ℕ) → SlotsPass w n ↔ SoundSlots w n
 
 -- In a sound table only slot zero holds the leaf.
 abbrev pub OnlyZeroIsLeaf : Type 0

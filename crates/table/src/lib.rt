@@ -1,5 +1,4 @@
-// The lent tables: the word table from the base on, whose words are slots, and the frame table (the paper's job table).
-// How many words a slot or a frame has, and where they stand, is known here alone.
-pub mod frames;
+// The lent word table from the base on, whose words are slots. How many words a slot has, and where they stand, is known here alone.
+pub mod base;
 pub mod limits;
 pub mod slots;

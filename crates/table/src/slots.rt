@@ -2,19 +2,13 @@
 ghost use mathlib.Core.Path.{_≡_};
 ghost use Prim.Native.Nat.{_≤_, _<_};
 ghost use Rattle.table.specs.Limits.{maxSlots};
-ghost use Rattle.table.specs.Slots.{room, place, putWords, nodeAt, putNode, Below};
+ghost use Rattle.table.specs.Slots.{room, isUsed, namedSlot, putWords, nodeAt, putNode, Below};
 ghost use Rattle.table.specs.Sound.{slotSound, sound};
-ghost use lib.IntN.{pos};
+ghost use lib.IntN.{pos, natAbs};
 use crate::limits::Limit;
 
 // A slot's number, as wide as an index: two narrower ones would share a register in the run's loop.
 pub struct Slot(pub usize);
-
-// Whether a number names a slot.
-pub enum Place {
-    At(Slot),
-    Nowhere,
-}
 
 // What a slot holds: the slots of a node's children.
 pub enum Node {
@@ -28,21 +22,25 @@ impl Slot {
     pub const ZERO: Slot = Slot(0);
 
     // The words of a slot.
-    pub const WORDS: usize = 2;
+    const WORDS: usize = 2;
 
-    // The slot of that number among the used ones; a negative number names none.
-    pub fn place(i: i32, used: u32) -> Place
-        ensures { λ r. ⌜ r ≡ place i used ⌝ }
+    // Whether a number names one of the used slots; a negative one names none.
+    pub fn is_used(i: i32, used: u32) -> bool
+        ensures { λ r. ⌜ r ≡ isUsed i used ⌝ }
     {
         if i < 0 {
-            return Place::Nowhere;
+            return false;
         }
         let n = i as u32;
-        if n < used {
-            Place::At(Slot(n as usize))
-        } else {
-            Place::Nowhere
-        }
+        n < used
+    }
+
+    // The slot that a number names.
+    pub fn named(i: i32) -> Slot
+        requires { ⌜ i ≡ pos (natAbs i) ⌝ }
+        ensures { λ r. ⌜ r ≡ namedSlot i ⌝ }
+    {
+        Slot(i as usize)
     }
 
     // The number again, as the calls have it.

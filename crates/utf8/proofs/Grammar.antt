@@ -7,7 +7,7 @@ use native.Mathlib.Omega.{arith}
 use Rattle.utf8.specs.Rfc3629.{Octet, Utf8Octets, none, more}
 use Rattle.utf8.specs.Rfc3629.{utf8-1, utf8-2, utf8-3-E0, utf8-3-E1, utf8-3-ED, utf8-3-EE}
 use Rattle.utf8.specs.Rfc3629.{utf8-4-F0, utf8-4-F1, utf8-4-F4}
-use Rattle.utf8.specs.Check.{Range, Row, _to_, _then_, wants, never, utf8-char, within, start, step}
+use Rattle.utf8.specs.Check.{Range, OctetRow, _to_, _then_, wants, never, utf8-char, inRange, octetStart, octetStep}
 use Rattle.utf8.proofs.Laws.{RowOf, here, there, after, start-char, within-in, within-true}
 
 -- s starts with one octet of each range of rs, and a UTF8-octets follows
@@ -56,13 +56,13 @@ closes (there (there (there (there (there (there (there (there (here a))))))))) 
     more (utf8-4-F4 a b c d) u
 
 -- an octet starts a character only by a row that has it
-started : (rows : List Row) {b : ℕ} {rs : List Range} → start rows b ≡ wants rs → RowOf rows b rs
-unfolding start
+started : (rows : List OctetRow) {b : ℕ} {rs : List Range} → octetStart rows b ≡ wants rs → RowOf rows b rs
+unfolding octetStart
 started [] e = not-wants e
-started ((lo to hi then ws) ∷ rows) {b} {rs} e = go (within (lo to hi) b) refl (started rows) e
+started ((lo to hi then ws) ∷ rows) {b} {rs} e = go (inRange (lo to hi) b) refl (started rows) e
   where
-    go : (t : Bool) → within (lo to hi) b ≡ t → (start rows b ≡ wants rs → RowOf rows b rs)
-        → cond t (wants ws) (start rows b) ≡ wants rs → RowOf ((lo to hi then ws) ∷ rows) b rs
+    go : (t : Bool) → inRange (lo to hi) b ≡ t → (octetStart rows b ≡ wants rs → RowOf rows b rs)
+        → cond t (wants ws) (octetStart rows b) ≡ wants rs → RowOf ((lo to hi then ws) ∷ rows) b rs
     go true h later f = let q : ws ≡ rs = cc in rw (← q) (here (within-true lo hi b h))
     go false h later f = there (later f)
 
@@ -71,17 +71,17 @@ pub data Taken : List Range → ℕ → List Range → Type 0 where
   begins : {b : ℕ} {rs : List Range} → RowOf utf8-char b rs → Taken [] b rs
   goes : {lo hi b : ℕ} {rs : List Range} → Octet lo hi b → Taken ((lo to hi) ∷ rs) b rs
 
-pub taken : {rs qs : List Range} {b : ℕ} → step rs b ≡ wants qs → Taken rs b qs
-unfolding step
+pub taken : {rs qs : List Range} {b : ℕ} → octetStep rs b ≡ wants qs → Taken rs b qs
+unfolding octetStep
 taken {rs = []} e = begins (started utf8-char e)
-taken {rs = (lo to hi) ∷ rs} {qs} {b} e = go (within (lo to hi) b) refl e
+taken {rs = (lo to hi) ∷ rs} {qs} {b} e = go (inRange (lo to hi) b) refl e
   where
-    go : (t : Bool) → within (lo to hi) b ≡ t → cond t (wants rs) never ≡ wants qs → Taken ((lo to hi) ∷ rs) b qs
+    go : (t : Bool) → inRange (lo to hi) b ≡ t → cond t (wants rs) never ≡ wants qs → Taken ((lo to hi) ∷ rs) b qs
     go true h f = let q : rs ≡ qs = cc in rw (← q) (goes (within-true lo hi b h))
     go false h f = not-wants f
 
-pub takes : {rs qs : List Range} {b : ℕ} → Taken rs b qs → step rs b ≡ wants qs
-unfolding step
+pub takes : {rs qs : List Range} {b : ℕ} → Taken rs b qs → octetStep rs b ≡ wants qs
+unfolding octetStep
 takes (begins r) = start-char r
 takes (goes {lo = lo} {hi = hi} {b = b} o) = rw (within-in lo hi b o)
 

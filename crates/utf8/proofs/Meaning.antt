@@ -10,8 +10,8 @@ use lib.Seq.{take-take}
 use Rattle.utf8.specs.declared.Utf8.{Utf8}
 use Rattle.utf8.specs.declared.Utf8.the-variants.{Valid, BadAt}
 use Rattle.utf8.specs.Rfc3629.{Utf8Octets, none}
-use Rattle.utf8.specs.Check.{Range, Row, _to_, _then_, After, wants, never, utf8-char}
-use Rattle.utf8.specs.Check.{step, atEnd, checkFrom, check, onward}
+use Rattle.utf8.specs.Check.{Range, OctetRow, _to_, _then_, After, wants, never, utf8-char}
+use Rattle.utf8.specs.Check.{octetStep, atEnd, checkFrom, check, onward}
 use Rattle.utf8.specs.Meaning.{Continues, FirstBad, ValidExactly, BadExactly}
 use Rattle.utf8.proofs.Laws.{RowOf, here, there}
 use Rattle.utf8.proofs.Grammar.{Rest, done, next, Taken, begins, goes, taken, takes, not-wants, rest-back, rest-on}
@@ -27,9 +27,9 @@ valid-rest : (rs : List Range) (at : ℕ) (s : List ℕ) → checkFrom rs at s �
 unfolding checkFrom atEnd
 valid-rest [] at [] e = done none
 valid-rest (r ∷ rs) at [] e = not-valid e
-valid-rest rs at (b ∷ s) e = go (step rs b) refl (λ qs. valid-rest qs (at + 1) s) e
+valid-rest rs at (b ∷ s) e = go (octetStep rs b) refl (λ qs. valid-rest qs (at + 1) s) e
   where
-    go : (a : After) → step rs b ≡ a → ((qs : List Range) → checkFrom qs (at + 1) s ≡ Valid → Rest qs s)
+    go : (a : After) → octetStep rs b ≡ a → ((qs : List Range) → checkFrom qs (at + 1) s ≡ Valid → Rest qs s)
         → onward a (λ qs. checkFrom qs (at + 1) s) (BadAt at) ≡ Valid → Rest rs (b ∷ s)
     go (wants qs) h later f = rest-back (taken h) (later qs f)
     go never h later f = not-valid f
@@ -48,7 +48,7 @@ abbrev Nonempty : List Range → Type 0
 Nonempty [] = Unit {0}
 Nonempty ((lo to hi) ∷ rs) = (lo ≤ hi) × Nonempty rs
 
-abbrev AllNonempty : List Row → Type 0
+abbrev AllNonempty : List OctetRow → Type 0
 AllNonempty [] = Unit {0}
 AllNonempty ((r then rs) ∷ rows) = Nonempty rs × AllNonempty rows
 
@@ -56,7 +56,7 @@ char-nonempty : AllNonempty utf8-char
 unfolding utf8-char
 char-nonempty = omega arith
 
-row-nonempty : (rows : List Row) {b : ℕ} {rs : List Range} → AllNonempty rows → RowOf rows b rs → Nonempty rs
+row-nonempty : (rows : List OctetRow) {b : ℕ} {rs : List Range} → AllNonempty rows → RowOf rows b rs → Nonempty rs
 row-nonempty rows h (here o) = h .0
 row-nonempty rows h (there {row = r then ws} {rows = later} k) = row-nonempty later (h .1) k
 
@@ -64,7 +64,7 @@ step-nonempty : {rs qs : List Range} {b : ℕ} → Nonempty rs → Taken rs b qs
 step-nonempty h (begins r) = row-nonempty utf8-char char-nonempty r
 step-nonempty h (goes o) = h .1
 
--- some octets behind these meet the ranges rs and make valid text of the rest
+-- some octets after these meet the ranges rs and make valid text of the rest
 abbrev Carries : List Range → List ℕ → Type 0
 Carries rs s = (more : List ℕ) × Rest rs (s ++ more)
 
@@ -83,22 +83,22 @@ no-rest : {r : Range} {rs : List Range} → Rest (r ∷ rs) [] → ⊥
 no-rest {r = lo to hi} k = elim k [ ]
 
 -- what a refused octet rules out, and what one that is taken leaves
-refused : {rs : List Range} {b : ℕ} {s : List ℕ} → step rs b ≡ never → Rest rs (b ∷ s) → ⊥
+refused : {rs : List Range} {b : ℕ} {s : List ℕ} → octetStep rs b ≡ never → Rest rs (b ∷ s) → ⊥
 refused e k = not-wants (sym e ∙ takes (rest-on k .1))
 
-left : {rs qs : List Range} {b : ℕ} {s : List ℕ} → step rs b ≡ wants qs → Rest rs (b ∷ s) → Rest qs s
+left : {rs qs : List Range} {b : ℕ} {s : List ℕ} → octetStep rs b ≡ wants qs → Rest rs (b ∷ s) → Rest qs s
 left {qs} e k = let f = rest-on k in let q : f .0 ≡ qs = cc (takes (f .1)) in rw q at (f .2)
 
--- the text ends, the octet cannot stand here, or the place is behind it
+-- the text ends, the octet cannot stand here, or the place is after it
 stops-end : {r : Range} {rs : List Range} → Nonempty (r ∷ rs) → Stops (r ∷ rs) [] 0
 stops-end h =
     record { inside = omega arith; invalid = no-rest; before = completed _ h; upTo = λ l. absurd (omega arith) }
 
-stops-here : {rs : List Range} {b : ℕ} {s : List ℕ} → Nonempty rs → step rs b ≡ never → Stops rs (b ∷ s) 0
+stops-here : {rs : List Range} {b : ℕ} {s : List ℕ} → Nonempty rs → octetStep rs b ≡ never → Stops rs (b ∷ s) 0
 stops-here h e =
     record { inside = omega arith; invalid = refused e; before = completed _ h; upTo = λ l m. refused e (m .1) }
 
-stops-later : {rs qs : List Range} {b k : ℕ} {s : List ℕ} → step rs b ≡ wants qs → Stops qs s k
+stops-later : {rs qs : List Range} {b k : ℕ} {s : List ℕ} → octetStep rs b ≡ wants qs → Stops qs s k
     → Stops rs (b ∷ s) (suc k)
 stops-later e t = record {
   inside = omega arith;
@@ -116,9 +116,9 @@ bad-stops : (rs : List Range) (at : ℕ) (s : List ℕ) (n : ℕ) → Nonempty r
 unfolding checkFrom atEnd
 bad-stops [] at [] n h e = not-valid (sym e)
 bad-stops (r ∷ rs) at [] n h e = let q : at ≡ n = cc in (0, omega arith, stops-end h)
-bad-stops rs at (b ∷ s) n h e = go (step rs b) refl (λ qs. bad-stops qs (at + 1) s n) e
+bad-stops rs at (b ∷ s) n h e = go (octetStep rs b) refl (λ qs. bad-stops qs (at + 1) s n) e
   where
-    go : (a : After) → step rs b ≡ a
+    go : (a : After) → octetStep rs b ≡ a
         → ((qs : List Range) → Nonempty qs → checkFrom qs (at + 1) s ≡ BadAt n → StopsAt n qs (at + 1) s)
         → onward a (λ qs. checkFrom qs (at + 1) s) (BadAt at) ≡ BadAt n
         → StopsAt n rs at (b ∷ s)

@@ -13,14 +13,14 @@ pub data Range : Type 0 where
   _to_ : ℕ → ℕ → Range
 
 -- a row of the ABNF: the range of a character's first octet, and those of the octets after it
-pub data Row : Type 0 where
-  _then_ : Range → List Range → Row
+pub data OctetRow : Type 0 where
+  _then_ : Range → List Range → OctetRow
 
 abbrev pub tail : Range
 tail = 0x80 to 0xBF
 
 -- UTF8-1, UTF8-2, UTF8-3, UTF8-4
-unfoldable pub utf8-char : List Row
+unfoldable pub utf8-char : List OctetRow
 utf8-char =
     (0x00 to 0x7F then []) ∷
     (0xC2 to 0xDF then tail ∷ []) ∷
@@ -34,8 +34,8 @@ utf8-char =
     []
 
 -- the octet b is one of the range
-unfoldable pub within : Range → ℕ → Bool
-within (lo to hi) b = cond (leb lo b) (leb b hi) false
+unfoldable pub inRange : Range → ℕ → Bool
+inRange (lo to hi) b = cond (leb lo b) (leb b hi) false
 
 -- after an octet: the ranges that its character still wants, or that the octet cannot stand there
 pub data After : Type 0 where
@@ -43,14 +43,14 @@ pub data After : Type 0 where
   never : After
 
 -- an octet that starts a character: the first row that has it
-unfoldable pub start : List Row → ℕ → After
-start [] b = never
-start ((r then rs) ∷ rows) b = cond (within r b) (wants rs) (start rows b)
+unfoldable pub octetStart : List OctetRow → ℕ → After
+octetStart [] b = never
+octetStart ((r then rs) ∷ rows) b = cond (inRange r b) (wants rs) (octetStart rows b)
 
 -- an octet where the ranges are wanted; with none wanted, it starts a character
-unfoldable pub step : List Range → ℕ → After
-step [] b = start utf8-char b
-step (r ∷ rs) b = cond (within r b) (wants rs) never
+unfoldable pub octetStep : List Range → ℕ → After
+octetStep [] b = octetStart utf8-char b
+octetStep (r ∷ rs) b = cond (inRange r b) (wants rs) never
 
 -- the text ends
 unfoldable pub atEnd : List Range → ℕ → Utf8
@@ -64,7 +64,7 @@ onward never f bad = bad
 -- the octets from the place at on, where the ranges rs are wanted
 unfoldable pub checkFrom : List Range → ℕ → List ℕ → Utf8
 checkFrom rs at [] = atEnd rs at
-checkFrom rs at (b ∷ bytes) = onward (step rs b) (λ next. checkFrom next (at + 1) bytes) (BadAt at)
+checkFrom rs at (b ∷ bytes) = onward (octetStep rs b) (λ next. checkFrom next (at + 1) bytes) (BadAt at)
 
 -- valid, or the place of the first octet that cannot continue valid text (the length where the text ends inside a character)
 unfoldable pub check : List ℕ → Utf8

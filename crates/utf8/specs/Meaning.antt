@@ -7,7 +7,7 @@ use Rattle.utf8.specs.declared.Utf8.the-variants.{Valid, BadAt}
 use Rattle.utf8.specs.Rfc3629.{Utf8Octets}
 use Rattle.utf8.specs.Check.{check}
 
--- some octets behind these make valid text of them
+-- some octets after these make valid text of them
 abbrev pub Continues : List ℕ → Type 0
 Continues s = (more : List ℕ) × Utf8Octets (s ++ more)
 

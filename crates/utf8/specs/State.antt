@@ -13,7 +13,7 @@ use Rattle.utf8.specs.Check.{Range, _to_, tail, After, wants, never}
 abbrev pub tails : ℕ → Want
 tails n = record { left = n; low = 0x80; high = 0xBF }
 
--- the ranges that a state stands for: one for the next octet, tails behind it
+-- the ranges that a state stands for: one for the next octet, tails after it
 unfoldable pub wanted : Want → List Range
 wanted w = cond (eqb (w .left) 0) [] ((w .low to w .high) ∷ replicate (w .left - 1) tail)
 
@@ -22,6 +22,6 @@ afterOf (Go w) = wants (wanted w)
 afterOf Stop = never
 
 -- how many octets at the start are characters of one octet
-unfoldable pub ascii : List ℕ → ℕ
-ascii [] = 0
-ascii (b ∷ bytes) = cond (ltb b 0x80) (suc (ascii bytes)) 0
+unfoldable pub asciiLength : List ℕ → ℕ
+asciiLength [] = 0
+asciiLength (b ∷ bytes) = cond (ltb b 0x80) (suc (asciiLength bytes)) 0

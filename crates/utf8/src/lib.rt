@@ -1,8 +1,8 @@
 // Whether bytes are UTF-8 (RFC 3629), and where they stop being it.
 ghost use mathlib.Core.Path.{_≡_};
 ghost use Prim.Native.Nat.{_≤_};
-ghost use Rattle.utf8.specs.Check.{utf8-char, start, step, atEnd, check};
-ghost use Rattle.utf8.specs.State.{tails, wanted, afterOf, ascii};
+ghost use Rattle.utf8.specs.Check.{utf8-char, octetStart, octetStep, atEnd, check};
+ghost use Rattle.utf8.specs.State.{tails, wanted, afterOf, asciiLength};
 
 pub enum Utf8 {
     Valid,
@@ -10,7 +10,7 @@ pub enum Utf8 {
     BadAt(usize),
 }
 
-// What a character that was begun still wants: how many bytes, and the range of the next one. Those behind it are tails.
+// What a character that was begun still wants: how many bytes, and the range of the next one. Those after it are tails.
 struct Want {
     left: u8,
     low: u8,
@@ -36,7 +36,7 @@ fn tails(left: u8) -> Want
 // The first byte of a character of three bytes.
 fn start3(b: u8) -> Want
     requires { ⌜ (0xE0 ≤ b) × (b ≤ 0xEF) ⌝ }
-    ensures { λ r. ⌜ afterOf (Next.Go r) ≡ start utf8-char b ⌝ }
+    ensures { λ r. ⌜ afterOf (Next.Go r) ≡ octetStart utf8-char b ⌝ }
 {
     if b == 0xe0 {
         return Want {
@@ -58,7 +58,7 @@ fn start3(b: u8) -> Want
 // The first byte of a character of four bytes, or a byte above all of those.
 fn start4(b: u8) -> Next
     requires { ⌜ 0xF0 ≤ b ⌝ }
-    ensures { λ r. ⌜ afterOf r ≡ start utf8-char b ⌝ }
+    ensures { λ r. ⌜ afterOf r ≡ octetStart utf8-char b ⌝ }
 {
     if b == 0xf0 {
         return Next::Go(Want {
@@ -81,8 +81,8 @@ fn start4(b: u8) -> Next
 }
 
 // The first byte of a character.
-fn start(b: u8) -> Next
-    ensures { λ r. ⌜ afterOf r ≡ start utf8-char b ⌝ }
+fn octet_start(b: u8) -> Next
+    ensures { λ r. ⌜ afterOf r ≡ octetStart utf8-char b ⌝ }
 {
     if b < 0x80 {
         return Next::Go(tails(0));
@@ -100,11 +100,11 @@ fn start(b: u8) -> Next
 }
 
 // One byte more.
-fn step(w: Want, b: u8) -> Next
-    ensures { λ r. ⌜ afterOf r ≡ step (wanted w) b ⌝ }
+fn octet_step(w: Want, b: u8) -> Next
+    ensures { λ r. ⌜ afterOf r ≡ octetStep (wanted w) b ⌝ }
 {
     if w.left == 0 {
-        return start(b);
+        return octet_start(b);
     }
     if b < w.low {
         return Next::Stop;
@@ -125,8 +125,8 @@ fn at_end(w: Want, at: usize) -> Utf8
 }
 
 // How many bytes at the start are characters of one byte. Most texts have no other.
-fn ascii(s: &[u8]) -> usize
-    ensures { λ r. ⌜ r ≡ ascii (now (s .entry)) ⌝ }
+fn ascii_length(s: &[u8]) -> usize
+    ensures { λ r. ⌜ r ≡ asciiLength (now (s .entry)) ⌝ }
 {
     let mut i = 0;
     while i < s.len() {
@@ -142,9 +142,9 @@ pub fn check(s: &[u8]) -> Utf8
     ensures { λ r. ⌜ r ≡ check (now (s .entry)) ⌝ }
 {
     let mut w = tails(0);
-    let mut i = ascii(s);
+    let mut i = ascii_length(s);
     while i < s.len() {
-        match step(w, s[i]) {
+        match octet_step(w, s[i]) {
             Next::Go(n) => {
                 w = n;
             }

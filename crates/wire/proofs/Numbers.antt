@@ -29,7 +29,7 @@ pub part-one : (s : List ℕ) (at : ℕ) → at < length s → getD s at 0 ≡ b
 unfolding bigEndian
 part-one s at h = rw (drop-cons s at 0 h) (omega arith)
 
--- the number of m + n bytes at a position, from that of the first m and that of the n behind them
+-- the number of m + n bytes at a position, from that of the first m and that of the n after them
 pub part-join : (m n : ℕ) (s : List ℕ) (at : ℕ) → at + (m + n) ≤ length s →
     {x y : ℕ} → x ≡ bigEndian (take m (drop at s)) → y ≡ bigEndian (take n (drop (at + m) s)) →
     x * 256 ^ n + y ≡ bigEndian (take (m + n) (drop at s))

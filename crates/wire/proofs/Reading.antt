@@ -30,7 +30,7 @@ reads-join {b} {c} r t = record {
   rest = rw append-assoc (r .rest ∙ ap (λ (l : List ℕ). b ++ l) (t .rest));
 }
 
--- where bytes end that have others behind them
+-- where bytes end that have others after them
 pub reads-split : {s b c : List ℕ} {at e : ℕ} → Reads s at e (b ++ c) → (p : ℕ) × Reads s at p b × Reads s p e c
 reads-split {s} {b} {c} {at} {e} r =
     let l : e ≡ at + (length b + length c) = rw length-append at (r .end) in

@@ -1,4 +1,4 @@
--- What a reader has to believe of bytes and lists, as relations: a number in bytes, things one after the other, one among others.
+-- What a reader has to believe of bytes, as relations: a number in bytes, and things one after the other.
 use Prim.Native.Nat.{ℕ}
 use mathlib.Core.Path.{_≡_}
 use mathlib.Core.List.{List, [], _∷_, _++_}
@@ -14,13 +14,3 @@ pub record Number (n v : ℕ) (b : List ℕ) : Type 0 where
 pub data Sequence {A : Type 0} (Is : A → List ℕ → Type 0) : List A → List ℕ → Type 0 where
   none : Sequence Is [] []
   next : {x : A} {xs : List A} {a b : List ℕ} → Is x a → Sequence Is xs b → Sequence Is (x ∷ xs) (a ++ b)
-
--- x stands in a list
-pub data Among {A : Type 0} (x : A) : List A → Type 0 where
-  here : {xs : List A} → Among x (x ∷ xs)
-  there : {y : A} {xs : List A} → Among x xs → Among x (y ∷ xs)
-
--- no element stands again further on
-pub data Distinct {A : Type 0} : List A → Type 0 where
-  none : Distinct []
-  more : {x : A} {xs : List A} → (Among x xs → ⊥) → Distinct xs → Distinct (x ∷ xs)

@@ -3,15 +3,14 @@ use Prim.Native.Nat.{ℕ, _+_, _*_, _^_}
 use Prim.Native.Char.{code}
 use Prim.Native.String.{String}
 use mathlib.Core.List.{List, [], _∷_}
-use mathlib.Core.Bool.{Bool, true, false, cond}
+use mathlib.Core.Bool.{Bool, false, cond}
 use lib.ListN.{length, take, drop}
-use lib.Dec.{leb, eqb}
+use lib.Dec.{leb}
+use Rattle.lists.specs.Lists.{sameBytes}
 use Rattle.wire.specs.declared.Num.{Num}
 use Rattle.wire.specs.declared.Num.the-variants.{Value, Short}
 use Rattle.wire.specs.declared.Pos.{Pos}
 use Rattle.wire.specs.declared.Pos.the-variants.{At, Past}
-use Rattle.wire.specs.declared.Found.{Found}
-use Rattle.wire.specs.declared.Found.the-variants.{Index, Nothing}
 
 -- the number that bytes stand for, the first byte the highest
 unfoldable pub bigEndian : List ℕ → ℕ
@@ -34,13 +33,6 @@ span s start n = cond (inside s start n) (take n (drop start s)) []
 unfoldable pub numberAt : ℕ → List ℕ → ℕ → Num
 numberAt n s at = cond (inside s at n) (Value (bigEndian (take n (drop at s)))) Short
 
--- equality of two byte strings, as a test
-unfoldable pub sameBytes : List ℕ → List ℕ → Bool
-sameBytes [] [] = true
-sameBytes [] (y ∷ ys) = false
-sameBytes (x ∷ xs) [] = false
-sameBytes (x ∷ xs) (y ∷ ys) = cond (eqb x y) (sameBytes xs ys) false
-
 -- the byte string t stands in s from a position on
 unfoldable pub holdsAt : List ℕ → ℕ → List ℕ → Bool
 holdsAt s at t = cond (inside s at (length t)) (sameBytes (take (length t) (drop at s)) t) false
@@ -49,20 +41,6 @@ holdsAt s at t = cond (inside s at (length t)) (sameBytes (take (length t) (drop
 abbrev pub orZero : Num → ℕ
 orZero (Value v) = v
 orZero Short = 0
-
--- the index of the first of some byte strings that is this one, counted from i, or none
-unfoldable pub indexOf : List ℕ → ℕ → List (List ℕ) → Found
-indexOf t i [] = Nothing
-indexOf t i (x ∷ xs) = cond (sameBytes x t) (Index i) (indexOf t (i + 1) xs)
-
-abbrev pub found : Found → Bool
-found (Index i) = true
-found Nothing = false
-
--- some byte string stands again further on
-unfoldable pub repeats : List (List ℕ) → Bool
-repeats [] = false
-repeats (x ∷ xs) = cond (found (indexOf x 0 xs)) true (repeats xs)
 
 -- the bytes of a text of the source
 abbrev pub ascii : String → List ℕ
@@ -78,13 +56,3 @@ onPos Past f none = none
 abbrev pub onNumber : {A : Type 0} → Num → (ℕ → A) → A → A
 onNumber (Value v) f none = f v
 onNumber Short f none = none
-
--- one of some tests holds
-unfoldable pub anyOf : List Bool → Bool
-anyOf [] = false
-anyOf (b ∷ bs) = cond b true (anyOf bs)
-
--- some element of a list, with those behind it, passes a test
-unfoldable pub someOf : {A : Type 0} → (A → List A → Bool) → List A → Bool
-someOf test [] = false
-someOf test (x ∷ xs) = cond (test x xs) true (someOf test xs)

@@ -2,7 +2,7 @@
 ghost use mathlib.Core.Path.{_≡_};
 ghost use Prim.Native.Nat.{_+_, _^_, _≤_, _<_};
 ghost use lib.ListN.{length, take, drop};
-ghost use Rattle.wire.specs.Wire.{bigEndian, inside, spanEnd, span, numberAt, sameBytes, holdsAt, orZero};
+ghost use Rattle.wire.specs.Wire.{bigEndian, inside, spanEnd, span, numberAt, holdsAt, orZero};
 
 // A number that was read, or that the slice ends before its last byte.
 pub enum Num {
@@ -16,10 +16,10 @@ pub enum Pos {
     Past,
 }
 
-// The index of a byte string among others, or that it is not there.
-pub enum Found {
-    Index(usize),
-    Nothing,
+// A part of a slice: where it starts, and how many bytes it has.
+pub struct Part {
+    pub start: usize,
+    pub size: usize,
 }
 
 impl Num {
@@ -31,6 +31,15 @@ impl Num {
             Num::Value(v) => v,
             Num::Short => 0,
         }
+    }
+}
+
+impl Part {
+    // Its bytes in s, or the empty part where they pass the end.
+    pub fn of(self, s: &[u8]) -> &[u8]
+        ensures { λ r. ⌜ now r ≡ span (now (s .entry)) (self .start) (self .size) ⌝ }
+    {
+        span(s, self.start, self.size)
     }
 }
 
@@ -131,22 +140,6 @@ pub fn u64_at(s: &[u8], at: usize) -> Num
     Num::Short
 }
 
-pub fn same_bytes(a: &[u8], b: &[u8]) -> bool
-    ensures { λ r. ⌜ r ≡ sameBytes (now (a .entry)) (now (b .entry)) ⌝ }
-{
-    if a.len() != b.len() {
-        return false;
-    }
-    let mut i = 0;
-    while i < a.len() {
-        if a[i] != b[i] {
-            return false;
-        }
-        i += 1;
-    }
-    true
-}
-
 // Whether the byte string t stands in s from at on.
 pub fn holds_at(s: &[u8], at: usize, t: &[u8]) -> bool
     ensures { λ r. ⌜ r ≡ holdsAt (now (s .entry)) at (now (t .entry)) ⌝ }
@@ -154,7 +147,7 @@ pub fn holds_at(s: &[u8], at: usize, t: &[u8]) -> bool
     let n = t.len();
     if inside(s, at, n) {
         let end = at + n;
-        return same_bytes(&s[at..end], t);
+        return lists::same_bytes(&s[at..end], t);
     }
     false
 }

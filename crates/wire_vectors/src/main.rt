@@ -126,7 +126,7 @@ fn same(a: &[u8], b: &[u8]) {
     text(b"same");
     bytes(a);
     bytes(b);
-    answer(wire::same_bytes(a, b));
+    answer(lists::same_bytes(a, b));
 }
 
 // Each of two strings with each.

@@ -1,37 +1,30 @@
--- The stage that answers.
+-- The stage that answers, or what was found.
 use borrow.Author.Needs.{needs}
-use mathlib.Core.Path.{sym, _∙_}
-use Rattle.bundle.proofs.Stages.{names-inside, by-names, by-nodes, placed-nodes}
-use Rattle.bundle.proofs.Verdicts.{refused-number, refused-some, passed-number, passed-laid}
+use Rattle.bundle.proofs.Verdicts.{by-names, manifest-shape, by-nodes, all-pass, placed-nodes}
 use Rattle.bundle.proofs.check_and_place.Statement.{statement}
 use Rattle.bundle.proofs.check_and_place.Tie as tie
 
-judge-names-requires : tie.Need-judge-names-requires
-judge-names-requires c κs = search needs
+describe-requires : tie.Need-describe-requires
+describe-requires c κs = search needs
 
 enum-known-n : tie.Need-enum-known-n
 enum-known-n c = search needs
 
-enum-known-l : tie.Need-enum-known-l
-enum-known-l c = search needs
+enum-known-c : tie.Need-enum-known-c
+enum-known-c c = search needs
 
-section-requires : tie.Need-section-requires
-section-requires c κs =
-    let named = c .before in
-    names-inside _ (named .before .before .judge-names .ensures .0) (passed-number (named .l .given .1))
+of-requires : tie.Need-of-requires
+of-requires c κs = search needs
 
-section-requires-2 : tie.Need-section-requires-2
-section-requires-2 c κs =
-    let named = c .before .before in
-    names-inside _ (named .before .before .judge-names .ensures .0) (passed-number (named .l .given .1))
+of-requires-2 : tie.Need-of-requires-2
+of-requires-2 c κs = search needs
 
 check-nodes-requires : tie.Need-check-nodes-requires
 check-nodes-requires c κs =
-    let manifest = c .before .before .before in
-    let named = manifest .before .before in
-    let judged = named .before .before in (
-      rw (manifest .section .ensures) (passed-laid _ (judged .judge-names .ensures .1) (named .l .given .1)),
-      judged .before .before .before .before .pre,
+    let found = c .before .before .before .before .before .before .before in
+    let told = found .before .before in (
+      manifest-shape _ (told .describe .ensures) (found .c .given .1) (c .before .before .before .of .ensures),
+      told .before .before .before .before .pre,
     )
 
 same-length : tie.Need-same-length
@@ -43,23 +36,17 @@ same-length-2 c = search needs
 returns : tie.Need-returns
 returns c =
     let checked = c .before .before .before .before .before in
-    let nodes = checked .before .before .before in
-    let named = nodes .before .before .before in (
-      by-nodes _ (named .before .before .judge-names .ensures .0) (passed-number (named .l .given .1))
-          (nodes .before .section .ensures) (nodes .section2 .ensures) (checked .check-nodes .ensures .0),
-      c .if1 .taken,
-      λ e. absurd (c .if1 .taken e),
-    )
+    let sections = checked .before .before .before in
+    let found = sections .before .before .before .before .before in
+    let (r, some) =
+    by-nodes _ (found .before .before .describe .ensures) (found .c .given .1) (sections .before .of .ensures) (sections .of2 .ensures)
+    (checked .check-nodes .ensures .0) (c .if1 .taken) in
+    (r, λ z. absurd (some z))
 
 returns-2 : tie.Need-returns-2
 returns-2 c =
-    let named = c .before in
-    let judged = named .before .before .judge-names .ensures in
-    let some = refused-some _ (judged .1) (named .n .given .1) in (
-      by-names _ (refused-number (named .n .given .1) ∙ judged .0) some,
-      some,
-      λ e. absurd (some e),
-    )
+    let (r, some) = by-names _ (c .before .before .before .describe .ensures) (c .before .n .given .1) in
+    (r, λ z. absurd (some z))
 
 same-length-3 : tie.Need-same-length-3
 same-length-3 c = search needs
@@ -70,25 +57,26 @@ same-length-4 c = search needs
 returns-3 : tie.Need-returns-3
 returns-3 c =
     let checked = c .before .before .before .before .before in
-    let nodes = checked .before .before .before in
-    let named = nodes .before .before .before in
-    let judged = named .before .before .judge-names .ensures in (
-      sym (c .if1 .left)
-          ∙ by-nodes _ (judged .0) (passed-number (named .l .given .1)) (nodes .before .section .ensures)
-          (nodes .section2 .ensures) (checked .check-nodes .ensures .0),
-      passed-laid _ (judged .1) (named .l .given .1),
-      λ e. placed-nodes (nodes .section2 .ensures) (checked .check-nodes .ensures .1 (c .if1 .left)),
+    let sections = checked .before .before .before in
+    let found = sections .before .before .before .before .before in
+    let described = found .before .before .describe .ensures in
+    let passed = found .c .given .1 in
+    let manifest = sections .before .of .ensures in
+    let nodes = sections .of2 .ensures in
+    let (e, placed) = checked .check-nodes .ensures in (
+      all-pass _ described passed manifest nodes e (c .if1 .left),
+      λ z. placed-nodes _ described passed manifest nodes e (placed (c .if1 .left)),
     )
 
 pub check-and-place-spec : {M : Type 1} → statement M
 check-and-place-spec =
     tie.close
     (tie.spec
-    judge-names-requires
+    describe-requires
     enum-known-n
-    enum-known-l
-    section-requires
-    section-requires-2
+    enum-known-c
+    of-requires
+    of-requires-2
     check-nodes-requires
     same-length
     same-length-2

@@ -1,9 +1,10 @@
 -- The tests of the rows, each where those before it do not hold.
-use mathlib.Core.Path.{sym, _∙_}
 use native.Mathlib.Omega.{arith}
 use borrow.Author.Needs.{needs}
-use Rattle.manifest.specs.Judged.{malformed, unsupported, misnamed}
-use Rattle.bundle.specs.Checks.{firstOf, manifestChecks}
+use Rattle.refusals.specs.Refusals.{rowsBefore, rowHolds}
+use Rattle.refusals.proofs.Rows.{refuse}
+use Rattle.bundle.specs.Checks.{manifestChecks}
+use Rattle.bundle.proofs.ManifestRows.{manifest-refused, manifest-passed, manifestRows}
 use Rattle.bundle.proofs.check_manifest.Statement.{statement}
 use Rattle.bundle.proofs.check_manifest.Tie as tie
 
@@ -17,56 +18,28 @@ unsupported-requires : tie.Need-unsupported-requires
 unsupported-requires c κs = search needs
 
 returns : tie.Need-returns
-unfolding firstOf manifestChecks malformed unsupported
-returns c =
-    let shape = c .before .before .before in (
-      rw (
-        sym (shape .before .before .read .ensures) ∙ shape .l .given .1,
-        ← c .before .unsupported .ensures,
-        c .if1 .taken,
-      ),
-      λ e. absurd (omega arith),
-    )
+unfolding manifestChecks rowsBefore rowHolds
+returns c = manifest-refused _ (refuse 13 (manifestChecks _) (search manifestRows) (search manifestRows)) (omega arith)
 
 misnamed-requires : tie.Need-misnamed-requires
 misnamed-requires c κs = search needs
 
 returns-2 : tie.Need-returns-2
-unfolding firstOf manifestChecks malformed unsupported misnamed
-returns-2 c =
-    let supported = c .before .before in
-    let shape = supported .before .before .before in (
-      rw (
-        sym (shape .before .before .read .ensures) ∙ shape .l .given .1,
-        ← supported .before .unsupported .ensures,
-        supported .if1 .left,
-        ← c .before .misnamed .ensures,
-        c .if2 .taken,
-      ),
-      λ e. absurd (omega arith),
-    )
+unfolding manifestChecks rowsBefore rowHolds
+returns-2 c = manifest-refused _ (refuse 14 (manifestChecks _) (search manifestRows) (search manifestRows)) (omega arith)
 
 enum-told : tie.Need-enum-told
 enum-told c = search needs
 
 returns-3 : tie.Need-returns-3
-unfolding firstOf manifestChecks malformed unsupported misnamed
+unfolding manifestChecks
 returns-3 c =
-    let supported = c .before .before in
-    let shape = supported .before .before .before in (
-      rw (
-        sym (shape .before .before .read .ensures) ∙ shape .l .given .1,
-        ← supported .before .unsupported .ensures,
-        supported .if1 .left,
-        ← c .before .misnamed .ensures,
-        c .if2 .left,
-      ),
-      sym (shape .before .before .read .ensures) ∙ shape .l .given .1,
-    )
+    let shape = c .before .before .before .before .before in
+    manifest-passed _ (shape .before .before .read .ensures) (shape .l .given .1) (search manifestRows)
 
 returns-4 : tie.Need-returns-4
-unfolding firstOf manifestChecks malformed
-returns-4 c = (rw (sym (c .before .before .read .ensures) ∙ c .enum-told .given .1), λ e. absurd (omega arith))
+unfolding manifestChecks rowsBefore rowHolds
+returns-4 c = manifest-refused _ (refuse 12 (manifestChecks _) (search manifestRows) (search manifestRows)) (omega arith)
 
 pub check-manifest-spec : {M : Type 1} → statement M
 check-manifest-spec =

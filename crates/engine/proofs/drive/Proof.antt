@@ -2,7 +2,7 @@
 use mathlib.Core.Path.{refl, _∙_}
 use native.Mathlib.Omega.{arith}
 use borrow.Author.Needs.{needs}
-use Rattle.engine.proofs.Keeps.{slots-below, step-left}
+use Rattle.stepping.proofs.Keeps.{slots-below, step-left}
 use Rattle.engine.proofs.DriveWays.{Driven, some-left, none-left, drive-none, drive-going, drive-done, drive-no-slot, drive-no-place}
 use Rattle.engine.proofs.drive.Statement.{statement}
 use Rattle.engine.proofs.drive.Tie as tie

@@ -1,4 +1,4 @@
--- The next line starts behind the last, at most one past the end.
+-- The next line starts after the last, at most one past the end.
 use Prim.Native.Nat.{_+_, _-_, _≤_}
 use native.Mathlib.Omega.{arith}
 use borrow.Author.Needs.{needs}

@@ -1,77 +1,59 @@
--- A refusal, or the writing in the part of the table behind the base.
-use Prim.Native.Nat.{ℕ}
-use mathlib.Core.Path.{refl, _∙_}
+-- A refusal by 1 to 20, or what is admitted to our part of the table.
 use native.Mathlib.Omega.{arith}
-use lib.ListN.{length-replicate}
 use borrow.Author.Needs.{needs}
-use Rattle.table.proofs.Signed.{as-passed, not-below, cast-64}
-use Rattle.bundle.proofs.Verdicts.{refused-number, refused-some, passed-number, passed-laid}
-use Rattle.loader.proofs.Fitting.{fit-plain, fit-room}
-use Rattle.loader.proofs.Refusals.{table-fits}
-use Rattle.loader.proofs.Accepting.{load-refused, load-ready, load-behind}
+use Rattle.table.proofs.Signed.{as-passed}
+use Rattle.bundle.proofs.Verdicts.{judged-refused, judged-passed, judged-described}
+use Rattle.loader.proofs.Loading.{started-inside, load-refused, load-admitted}
 use Rattle.loader.proofs.load.Statement.{statement}
 use Rattle.loader.proofs.load.Tie as tie
 
-slice-aggregate-judge : tie.Need-slice-aggregate-judge
-slice-aggregate-judge c = search needs
+slice-aggregate-check-and-place : tie.Need-slice-aggregate-check-and-place
+slice-aggregate-check-and-place c = search needs
 
-slice-aggregate-judge-2 : tie.Need-slice-aggregate-judge-2
-slice-aggregate-judge-2 c = search needs
+slice-aggregate-check-and-place-2 : tie.Need-slice-aggregate-check-and-place-2
+slice-aggregate-check-and-place-2 c = search needs
 
-judge-requires : tie.Need-judge-requires
-judge-requires c κs = search needs
+check-and-place-requires : tie.Need-check-and-place-requires
+check-and-place-requires c κs = search needs
 
 enum-known-n : tie.Need-enum-known-n
 enum-known-n c = search needs
 
-enum-known-l : tie.Need-enum-known-l
-enum-known-l c = search needs
+enum-known-c : tie.Need-enum-known-c
+enum-known-c c = search needs
 
-cast-at : tie.Need-cast-at
-cast-at c =
-    let passed = c .before in
-    let answer = passed .before .before .before .before in
-    let fits = answer .before .before .before .before .before .before .before .before .fits in
-    let fit = table-fits _ _ _ _ (answer .judge .ensures .0) (passed-number (passed .l .given .1)) in
-    cast-64 _ (fits .base) (fit-plain _ _ _ fit)
+start-requires : tie.Need-start-requires
+start-requires c κs = search needs
 
-slice-aggregate-write : tie.Need-slice-aggregate-write
-slice-aggregate-write c = search needs
+slice-aggregate-admit : tie.Need-slice-aggregate-admit
+slice-aggregate-admit c = search needs
 
-slice-aggregate-write-2 : tie.Need-slice-aggregate-write-2
-slice-aggregate-write-2 c = search needs
+slice-aggregate-admit-2 : tie.Need-slice-aggregate-admit-2
+slice-aggregate-admit-2 c = search needs
 
-mul-write : tie.Need-mul-write
-mul-write c =
-    let passed = c .before .before .before in
-    let answer = passed .before .before .before .before in
-    let fit = table-fits _ _ _ _ (answer .judge .ensures .0) (passed-number (passed .l .given .1)) in
-    omega (arith, fit-room _ _ _ fit .0, answer .before .before .before .before .before .before .before .before .good)
+mul-admit : tie.Need-mul-admit
+mul-admit c = omega (arith, started-inside _ _ (c .before .before .start .ensures), c .before .before .before .before .before .before .before .before .before .before .before .before .before .before .good)
 
-sub-write : tie.Need-sub-write
-sub-write c =
-    let passed = c .before .before .before in
-    let answer = passed .before .before .before .before in
-    fit-room _ _ _ (table-fits _ _ _ _ (answer .judge .ensures .0) (passed-number (passed .l .given .1))) .0
+sub-admit : tie.Need-sub-admit
+sub-admit c = started-inside _ _ (c .before .before .start .ensures)
 
-part-write-start : tie.Need-part-write-start
-part-write-start c =
-    let passed = c .before .before .before in
-    let answer = passed .before .before .before .before in
-    fit-room _ _ _ (table-fits _ _ _ _ (answer .judge .ensures .0) (passed-number (passed .l .given .1))) .0
+part-admit-start : tie.Need-part-admit-start
+part-admit-start c = started-inside _ _ (c .before .before .start .ensures)
 
-part-write-end : tie.Need-part-write-end
-part-write-end c = search needs
+part-admit-end : tie.Need-part-admit-end
+part-admit-end c = search needs
 
-write-requires : tie.Need-write-requires
-write-requires c κs =
-    let passed = c .before .before .before .before .before in
-    let answer = passed .before .before .before .before in
-    let fits = answer .before .before .before .before .before .before .before .before .fits in
-    let none = passed-number (passed .l .given .1) in (
-      passed-laid _ (answer .judge .ensures .1) (passed .l .given .1),
-      load-ready _ _ _ _ (as-passed _ (fits .base)) (answer .judge .ensures .0) none (answer .judge .ensures .2 none),
-    )
+admit-requires : tie.Need-admit-requires
+admit-requires c κs =
+    let found = c .before .before .before .before .before .before .c .given .1 in
+    let checked = c .before .before .before .before .before .before .before .before .before .before .check-and-place .ensures in
+    let clear = judged-passed _ (checked .0) found in
+    record { clear = clear; found = judged-described _ (checked .0) found; placing = checked .1 clear }
+
+returns : tie.Need-returns
+returns c =
+    let told = judged-refused _ (c .before .before .before .before .before .check-and-place .ensures .0) (c .before .n .given .1) in
+    load-refused _ _ _ _ (told .0) (told .1)
 
 same-length : tie.Need-same-length
 same-length c = search needs
@@ -79,51 +61,30 @@ same-length c = search needs
 same-length-2 : tie.Need-same-length-2
 same-length-2 c = search needs
 
-returns : tie.Need-returns
-returns c =
-    let refused = c .before in
-    let answer = refused .before .before .before .before in
-    let fits = answer .before .before .before .before .before .before .before .before .fits in
-    load-refused _ _ _ _ (as-passed _ (fits .base)) (refused-number (refused .n .given .1) ∙ answer .judge .ensures .0)
-    (refused-some _ (answer .judge .ensures .1) (refused .n .given .1))
-
-same-length-3 : tie.Need-same-length-3
-same-length-3 c = search needs
-
-same-length-4 : tie.Need-same-length-4
-same-length-4 c = search needs
-
 returns-2 : tie.Need-returns-2
 returns-2 c =
-    let written = c .before .before .before .before in
-    let passed = written .before .before .before .before .before .before in
-    let answer = passed .before .before .before .before in
-    let base = answer .before .before .before .before .before .before .before .before .fits .base in
-    let none = passed-number (passed .l .given .1) in
-    let fit = table-fits _ _ _ _ (answer .judge .ensures .0) none in
-    load-behind _ _ _ _ (as-passed _ base) (answer .judge .ensures .0) none _
-    (not-below _ base (fit-plain _ _ _ fit)) (fit-room _ _ _ fit .0) (written .write .ensures)
+    let checked = c .before .before .before .before .before .before .before .before .before .before .before .before .before .before .before in
+    load-admitted _ _ _ _ (judged-passed _ (checked .check-and-place .ensures .0) (c .before .before .before .before .before .before .before .before .before .before .before .c .given .1))
+    (as-passed _ (checked .before .before .before .before .before .before .fits .base)) _ (c .before .before .before .before .before .before .before .before .before .start .ensures) (c .before .before .before .before .admit .ensures)
 
 pub load-spec : {M : Type 1} → statement M
 load-spec =
     tie.close
     (tie.spec
-    slice-aggregate-judge
-    slice-aggregate-judge-2
-    judge-requires
+    slice-aggregate-check-and-place
+    slice-aggregate-check-and-place-2
+    check-and-place-requires
     enum-known-n
-    enum-known-l
-    cast-at
-    slice-aggregate-write
-    slice-aggregate-write-2
-    mul-write
-    sub-write
-    part-write-start
-    part-write-end
-    write-requires
+    enum-known-c
+    start-requires
+    slice-aggregate-admit
+    slice-aggregate-admit-2
+    mul-admit
+    sub-admit
+    part-admit-start
+    part-admit-end
+    admit-requires
+    returns
     same-length
     same-length-2
-    returns
-    same-length-3
-    same-length-4
     returns-2)

@@ -1,10 +1,10 @@
 -- The four tests in their order.
 use mathlib.Core.Path.{sym, _∙_}
 use borrow.Author.Needs.{needs}
-use borrow.Author.Tests.{eq-eqb, ne-eqb, not-true, not-false}
-use Rattle.wire.specs.Wire.{anyOf}
+use borrow.Author.Tests.{not-true, not-false}
+use Rattle.lists.specs.Lists.{anyOf}
 use Rattle.manifest.specs.Judged.{unsupportedAt}
-use Rattle.wire.proofs.Tests.{cond-test}
+use Rattle.lists.proofs.Tests.{cond-test}
 use Rattle.manifest.proofs.unsupported.Statement.{statement}
 use Rattle.manifest.proofs.unsupported.Tie as tie
 
@@ -15,8 +15,8 @@ returns : tie.Need-returns
 unfolding anyOf unsupportedAt
 returns c = rw (sym (c .before .strings-agree .ensures) ∙ not-true _ (c .if1 .taken))
 
-some-faulty-requires : tie.Need-some-faulty-requires
-some-faulty-requires c κs = search needs
+some-export-requires : tie.Need-some-export-requires
+some-export-requires c κs = search needs
 
 returns-2 : tie.Need-returns-2
 unfolding anyOf unsupportedAt
@@ -24,23 +24,28 @@ returns-2 c =
     let strings = c .before .before in
     rw (
       sym (strings .before .strings-agree .ensures) ∙ not-false _ (strings .if1 .left),
-      ← c .before .some-faulty .ensures,
+      ← c .before .some-export .ensures,
       c .if2 .taken,
     )
 
 count-at-requires : tie.Need-count-at-requires
 count-at-requires c κs = search needs
 
+allows-requires : tie.Need-allows-requires
+allows-requires c κs = search needs
+
 returns-3 : tie.Need-returns-3
 unfolding anyOf unsupportedAt
 returns-3 c =
-    let strings = c .before .before .before .before in
+    let counted = c .before .before in
+    let exports = counted .before in
+    let strings = exports .before .before in
     rw (
       sym (strings .before .strings-agree .ensures) ∙ not-false _ (strings .if1 .left),
-      ← c .before .before .before .some-faulty .ensures,
-      c .before .before .if2 .left,
-      ← c .before .count-at .ensures,
-      ne-eqb _ _ (c .if3 .taken),
+      ← exports .before .some-export .ensures,
+      exports .if2 .left,
+      ← counted .count-at .ensures,
+      sym (c .before .allows .ensures) ∙ not-true _ (c .if3 .taken),
     )
 
 u8-at-requires : tie.Need-u8-at-requires
@@ -52,13 +57,16 @@ or-zero-requires c κs = search needs
 returns-4 : tie.Need-returns-4
 unfolding anyOf unsupportedAt
 returns-4 c =
-    let strings = c .before .before .before .before .before .before in
+    let none = c .before .before in
+    let counted = none .before .before in
+    let exports = counted .before in
+    let strings = exports .before .before in
     rw (
       sym (strings .before .strings-agree .ensures) ∙ not-false _ (strings .if1 .left),
-      ← c .before .before .before .before .before .some-faulty .ensures,
-      c .before .before .before .before .if2 .left,
-      ← c .before .before .before .count-at .ensures,
-      eq-eqb _ _ (c .before .before .if3 .left),
+      ← exports .before .some-export .ensures,
+      exports .if2 .left,
+      ← counted .count-at .ensures,
+      sym (none .before .allows .ensures) ∙ not-false _ (none .if3 .left),
       c .or-zero .ensures,
       c .before .u8-at .ensures,
       cond-test,
@@ -70,9 +78,10 @@ unsupported-spec =
     (tie.spec
     strings-agree-requires
     returns
-    some-faulty-requires
+    some-export-requires
     returns-2
     count-at-requires
+    allows-requires
     returns-3
     u8-at-requires
     or-zero-requires

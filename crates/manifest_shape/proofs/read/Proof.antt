@@ -28,20 +28,20 @@ then-counted-requires-4 c κs = search needs
 then-counted-requires-5 : tie.Need-then-counted-requires-5
 then-counted-requires-5 c κs = search needs
 
-place-requires : tie.Need-place-requires
-place-requires c κs = search needs
+place-of-requires : tie.Need-place-of-requires
+place-of-requires c κs = search needs
 
-place-requires-2 : tie.Need-place-requires-2
-place-requires-2 c κs = search needs
+place-of-requires-2 : tie.Need-place-of-requires-2
+place-of-requires-2 c κs = search needs
 
-place-requires-3 : tie.Need-place-requires-3
-place-requires-3 c κs = search needs
+place-of-requires-3 : tie.Need-place-of-requires-3
+place-of-requires-3 c κs = search needs
 
-place-requires-4 : tie.Need-place-requires-4
-place-requires-4 c κs = search needs
+place-of-requires-4 : tie.Need-place-of-requires-4
+place-of-requires-4 c κs = search needs
 
-place-requires-5 : tie.Need-place-requires-5
-place-requires-5 c κs = search needs
+place-of-requires-5 : tie.Need-place-of-requires-5
+place-of-requires-5 c κs = search needs
 
 finish-requires : tie.Need-finish-requires
 finish-requires c κs = search needs
@@ -52,11 +52,11 @@ returns c =
     let parsed = c .before .before .before .before .before .before in
     rw (
       c .finish .ensures,
-      c .before .place5 .ensures,
-      c .before .before .place4 .ensures,
-      c .before .before .before .place3 .ensures,
-      c .before .before .before .before .place2 .ensures,
-      c .before .before .before .before .before .place .ensures,
+      c .before .place-of5 .ensures,
+      c .before .before .place-of4 .ensures,
+      c .before .before .before .place-of3 .ensures,
+      c .before .before .before .before .place-of2 .ensures,
+      c .before .before .before .before .before .place-of .ensures,
       parsed .then-counted5 .ensures,
       parsed .before .then-counted4 .ensures,
       parsed .before .before .then-counted3 .ensures,
@@ -79,10 +79,10 @@ read-spec =
     then-counted-requires-3
     then-counted-requires-4
     then-counted-requires-5
-    place-requires
-    place-requires-2
-    place-requires-3
-    place-requires-4
-    place-requires-5
+    place-of-requires
+    place-of-requires-2
+    place-of-requires-3
+    place-of-requires-4
+    place-of-requires-5
     finish-requires
     returns)

@@ -1,29 +1,37 @@
--- A base that is negative or past the end, or the plain run on the table from it on.
+-- A base outside the table, or the plain run on the table from it on.
 use borrow.Author.Needs.{needs}
-use Rattle.table.proofs.Signed.{below-zero, not-below, cast-64, as-passed}
-use Rattle.plain.proofs.CallWays.{run-negative, run-past, run-after}
+use Rattle.table.proofs.Signed.{as-passed}
+use Rattle.table.proofs.BaseLaws.{base-told}
+use Rattle.plain.proofs.CallWays.{run-outside, run-after}
 use Rattle.plain.proofs.run.Statement.{statement}
 use Rattle.plain.proofs.run.Tie as tie
 
-returns : tie.Need-returns
-returns c = run-negative _ _ _ _ _ _ _ (below-zero _ (c .before .before .fits .base) (c .if1 .taken))
+of-requires : tie.Need-of-requires
+of-requires c κs = search needs
 
-cast-at : tie.Need-cast-at
-cast-at c = cast-64 _ (c .before .before .fits .base) (c .if1 .left)
+enum-told : tie.Need-enum-told
+enum-told c = search needs
 
-returns-2 : tie.Need-returns-2
-returns-2 c =
-    let start = c .before .before .before in
-    run-past _ _ _ _ _ _ _ _ (not-below _ (start .fits .base) (c .before .if1 .left)) (c .if2 .taken)
+enum-known-at : tie.Need-enum-known-at
+enum-known-at c = search needs
 
 mul-plain-tail : tie.Need-mul-plain-tail
-mul-plain-tail c = search needs
+mul-plain-tail c =
+    let told = c .before .before .before in
+    let inside = base-told _ _ _ (told .of .ensures) (c .before .at .given .1) in
+    search (needs, inside)
 
 sub-plain-tail : tie.Need-sub-plain-tail
-sub-plain-tail c = search needs
+sub-plain-tail c =
+    let told = c .before .before .before in
+    let inside = base-told _ _ _ (told .of .ensures) (c .before .at .given .1) in
+    search (needs, inside)
 
 part-plain-tail-start : tie.Need-part-plain-tail-start
-part-plain-tail-start c = search needs
+part-plain-tail-start c =
+    let told = c .before .before .before in
+    let inside = base-told _ _ _ (told .of .ensures) (c .before .at .given .1) in
+    search (needs, inside)
 
 part-plain-tail-end : tie.Need-part-plain-tail-end
 part-plain-tail-end c = search needs
@@ -31,27 +39,35 @@ part-plain-tail-end c = search needs
 plain-tail-requires : tie.Need-plain-tail-requires
 plain-tail-requires c κs = search needs
 
+returns : tie.Need-returns
+returns c =
+    let told = c .before .before in
+    let fits = told .before .before .fits in
+    run-outside _ _ _ _ _ _ _ _ (as-passed _ (fits .base)) _ (told .of .ensures) (c .enum-told .given .1)
+
 same-length : tie.Need-same-length
 same-length c = search needs
 
-returns-3 : tie.Need-returns-3
-returns-3 c =
-    let test = c .before .before .before .before in
-    let start = test .before .before .before in
-    run-after _ _ _ _ _ _ _ _ (not-below _ (start .fits .base) (test .before .if1 .left)) (test .if2 .left) _ _
-    (as-passed _ (start .fits .f)) (as-passed _ (start .fits .x)) _ _ (c .before .before .plain-tail .ensures)
+returns-2 : tie.Need-returns-2
+returns-2 c =
+    let at = c .before .before .before .before .before in
+    let told = at .before .before in
+    let fits = told .before .before .fits in
+    run-after _ _ _ _ _ _ _ _ (as-passed _ (fits .base)) _ (told .of .ensures) _ (at .at .given .1) _ _ (as-passed _ (fits .f))
+    (as-passed _ (fits .x)) _ _ (c .before .before .plain-tail .ensures)
 
 pub run-spec : {M : Type 1} → statement M
 run-spec =
     tie.close
     (tie.spec
-    returns
-    cast-at
-    returns-2
+    of-requires
+    enum-told
+    enum-known-at
     mul-plain-tail
     sub-plain-tail
     part-plain-tail-start
     part-plain-tail-end
     plain-tail-requires
+    returns
     same-length
-    returns-3)
+    returns-2)

@@ -1,5 +1,5 @@
 -- A fresh hash, all of the message, and the end.
-use Rattle.sha256.specs.Running.{after}
+use Rattle.sha256.specs.Running.{stateAfter}
 use Rattle.sha256.proofs.Clients.{finished-after}
 use borrow.Author.Needs.{needs}
 use Rattle.sha256.proofs.digest.Statement.{statement}
@@ -15,7 +15,7 @@ finish-requires : tie.Need-finish-requires
 finish-requires c κs = search needs
 
 returns : tie.Need-returns
-unfolding after
+unfolding stateAfter
 returns c = cc (finished-after (c .before .before .before .before .args .bytes .now))
 
 pub digest-spec : {M : Type 1} → statement M

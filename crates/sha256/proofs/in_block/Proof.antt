@@ -1,4 +1,4 @@
--- The part is stored, and what is behind it cleared.
+-- The part is stored, and what is after it cleared.
 use mathlib.Core.Path.{_≡_}
 use lib.ListN.{length}
 use Rattle.sha256.proofs.Filling.{in-block}

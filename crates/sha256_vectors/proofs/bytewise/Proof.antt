@@ -3,7 +3,7 @@ use Prim.Native.Nat.{_+_, _-_, _≤_}
 use mathlib.Core.Path.{_≡_, _∙_}
 use native.Mathlib.Omega.{arith}
 use lib.ListN.{length, take}
-use Rattle.sha256.specs.Running.{after}
+use Rattle.sha256.specs.Running.{stateAfter}
 use Rattle.sha256.proofs.Clients.{fresh-after}
 use Rattle.sha256_vectors.proofs.Parts.{part-after, whole-after}
 use borrow.Author.Needs.{needs}
@@ -11,7 +11,7 @@ use Rattle.sha256_vectors.proofs.bytewise.Statement.{statement}
 use Rattle.sha256_vectors.proofs.bytewise.Tie as tie
 
 abbrev Inv-loop : tie.InvT-loop
-Inv-loop m s₀ i₀ s i = (i ≤ length m) × (s ≡ after (take i m))
+Inv-loop m s₀ i₀ s i = (i ≤ length m) × (s ≡ stateAfter (take i m))
 
 abbrev μ-loop : tie.MeasureT-loop
 μ-loop m s₀ i₀ s i = length m - i

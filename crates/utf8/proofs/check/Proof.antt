@@ -19,18 +19,18 @@ abbrev μ-loop : tie.MeasureT-loop
 tails-requires : tie.Need-tails-requires Inv-loop μ-loop
 tails-requires c κs = search needs
 
-ascii-requires : tie.Need-ascii-requires Inv-loop μ-loop
-ascii-requires c κs = search needs
+ascii-length-requires : tie.Need-ascii-length-requires Inv-loop μ-loop
+ascii-length-requires c κs = search needs
 
 loop-holds : tie.Need-loop-holds Inv-loop μ-loop
 unfolding wanted
-loop-holds c = rw (c .before .tails .ensures, c .ascii .ensures) (ascii-inside _, check-ascii _)
+loop-holds c = rw (c .before .tails .ensures, c .ascii-length .ensures) (ascii-inside _, check-ascii _)
 
-shared-slice-read-step : tie.Need-shared-slice-read-step Inv-loop μ-loop
-shared-slice-read-step c = search needs
+shared-slice-read-octet-step : tie.Need-shared-slice-read-octet-step Inv-loop μ-loop
+shared-slice-read-octet-step c = search needs
 
-step-requires : tie.Need-step-requires Inv-loop μ-loop
-step-requires c κs = search needs
+octet-step-requires : tie.Need-octet-step-requires Inv-loop μ-loop
+octet-step-requires c κs = search needs
 
 enum-known-n : tie.Need-enum-known-n Inv-loop μ-loop
 enum-known-n c = search needs
@@ -41,7 +41,7 @@ enum-told c = search needs
 returns : tie.Need-returns Inv-loop μ-loop
 returns c =
     sym
-    (c .before .before .before .before .before .loop .inv .1 ∙ from-stop _ _ _ (omega arith) (c .before .before .step .ensures) (c .enum-told .given .1))
+    (c .before .before .before .before .before .loop .inv .1 ∙ from-stop _ _ _ (omega arith) (c .before .before .octet-step .ensures) (c .enum-told .given .1))
 
 add-i : tie.Need-add-i Inv-loop μ-loop
 add-i c = search needs
@@ -53,7 +53,7 @@ loop-again : tie.Need-loop-again Inv-loop μ-loop
 loop-again c = (
   omega arith,
   c .before .before .before .before .before .before .loop .inv .1 ∙ from-go _ _ _ (omega arith)
-      (c .before .before .before .step .ensures) (c .before .n .given .1),
+      (c .before .before .before .octet-step .ensures) (c .before .n .given .1),
 )
 
 at-end-requires : tie.Need-at-end-requires Inv-loop μ-loop
@@ -69,10 +69,10 @@ check-spec =
     Inv-loop
     μ-loop
     tails-requires
-    ascii-requires
+    ascii-length-requires
     loop-holds
-    shared-slice-read-step
-    step-requires
+    shared-slice-read-octet-step
+    octet-step-requires
     enum-known-n
     enum-told
     returns

@@ -1,8 +1,8 @@
--- The parts of the line, one behind the other.
+-- The parts of the line, one after the other.
 use native.Mathlib.Omega.{arith}
 use borrow.Author.Needs.{needs}
 use Rattle.listing.specs.Listing.{okLine}
-use Rattle.listing.proofs.Putting.{then}
+use Rattle.text.proofs.Putting.{then}
 use Rattle.listing.proofs.Lines.{ok-length}
 use Rattle.listing.proofs.report.put_ok.Statement.{statement}
 use Rattle.listing.proofs.report.put_ok.Tie as tie

@@ -1,8 +1,8 @@
--- The parts of the line, one behind the other.
+-- The parts of the line, one after the other.
 use native.Mathlib.Omega.{arith}
 use borrow.Author.Needs.{needs}
 use Rattle.listing.specs.Listing.{refusedLine}
-use Rattle.listing.proofs.Putting.{then}
+use Rattle.text.proofs.Putting.{then}
 use Rattle.listing.proofs.Lines.{refused-length}
 use Rattle.listing.proofs.report.put_refused.Statement.{statement}
 use Rattle.listing.proofs.report.put_refused.Tie as tie

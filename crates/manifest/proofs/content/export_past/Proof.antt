@@ -1,4 +1,4 @@
--- The abi string behind the name and what a root has: a hash and a string.
+-- The abi string after the name and what a root has: a hash and a string.
 use borrow.Author.Needs.{needs}
 use Rattle.manifest.specs.Content.{exportPast}
 use Rattle.manifest.proofs.content.export_past.Statement.{statement}

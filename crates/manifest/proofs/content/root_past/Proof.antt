@@ -1,4 +1,4 @@
--- The role behind the hash.
+-- The role after the hash.
 use borrow.Author.Needs.{needs}
 use Rattle.manifest.specs.Content.{rootPast}
 use Rattle.manifest.proofs.content.root_past.Statement.{statement}

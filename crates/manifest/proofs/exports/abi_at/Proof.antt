@@ -1,4 +1,4 @@
--- The text behind the name and what a root has.
+-- The text after the name and what a root has.
 use borrow.Author.Needs.{needs}
 use Rattle.manifest.specs.Content.{textAt}
 use Rattle.manifest.proofs.exports.abi_at.Statement.{statement}

@@ -1,7 +1,7 @@
--- The exports behind the count that was read.
+-- The exports after the count that was read.
 use native.Mathlib.Omega.{arith}
 use borrow.Author.Needs.{needs}
-use Rattle.wire.specs.Wire.{indexOf}
+use Rattle.lists.specs.Lists.{indexOf}
 use Rattle.wire.proofs.Spans.{number-value}
 use Rattle.manifest.specs.Content.{exportsAt, names}
 use Rattle.manifest.proofs.exports.find.Statement.{statement}

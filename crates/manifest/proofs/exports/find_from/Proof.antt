@@ -4,7 +4,7 @@ use mathlib.Core.Path.{_≡_, sym, _∙_}
 use native.Mathlib.Nat.{sub-zero}
 use native.Mathlib.Omega.{arith}
 use borrow.Author.Needs.{needs}
-use Rattle.wire.specs.Wire.{indexOf}
+use Rattle.lists.specs.Lists.{indexOf}
 use Rattle.manifest.specs.Content.{exportsFrom, names}
 use Rattle.manifest.proofs.Lists.{list-step, list-stop, list-none}
 use Rattle.manifest.proofs.ExportLists.{find-here, find-later, find-none}

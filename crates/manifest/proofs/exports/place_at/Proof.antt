@@ -1,4 +1,4 @@
--- The exports behind the count that was read.
+-- The exports after the count that was read.
 use native.Mathlib.Omega.{arith}
 use borrow.Author.Needs.{needs}
 use Rattle.wire.proofs.Spans.{number-value}

@@ -1,7 +1,7 @@
 -- What came before decides.
 use borrow.Author.Needs.{needs}
 use Rattle.manifest.specs.Judged.{past}
-use Rattle.wire.proofs.Tests.{cond-test}
+use Rattle.lists.proofs.Tests.{cond-test}
 use Rattle.manifest.proofs.strings.past_any.Statement.{statement}
 use Rattle.manifest.proofs.strings.past_any.Tie as tie
 

@@ -1,4 +1,4 @@
--- The items behind the count, where its size allows it.
+-- The items after the count, where its size allows it.
 use native.Mathlib.Omega.{arith}
 use borrow.Author.Needs.{needs}
 use Rattle.wire.proofs.Spans.{number-value}

@@ -1,4 +1,4 @@
--- The abi string behind the name and what a root has: a hash and a string.
+-- The abi string after the name and what a root has: a hash and a string.
 use borrow.Author.Needs.{needs}
 use Rattle.manifest_shape.specs.Shape.{exportEnd}
 use Rattle.manifest_shape.proofs.parts.export_end.Statement.{statement}

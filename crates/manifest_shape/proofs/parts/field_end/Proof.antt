@@ -1,4 +1,4 @@
--- The sized bytes behind the tag.
+-- The sized bytes after the tag.
 use borrow.Author.Needs.{needs}
 use Rattle.manifest_shape.specs.Shape.{fieldEnd}
 use Rattle.manifest_shape.proofs.parts.field_end.Statement.{statement}

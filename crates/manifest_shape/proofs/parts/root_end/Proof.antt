@@ -1,4 +1,4 @@
--- The string behind the hash.
+-- The string after the hash.
 use borrow.Author.Needs.{needs}
 use Rattle.manifest_shape.specs.Shape.{rootEnd}
 use Rattle.manifest_shape.proofs.parts.root_end.Statement.{statement}

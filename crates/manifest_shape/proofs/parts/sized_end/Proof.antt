@@ -1,4 +1,4 @@
--- The bytes behind the length that was read.
+-- The bytes after the length that was read.
 use native.Mathlib.Omega.{arith}
 use borrow.Author.Needs.{needs}
 use Rattle.wire.proofs.Spans.{number-value}

@@ -1,4 +1,4 @@
--- The text behind the length that was read.
+-- The text after the length that was read.
 use native.Mathlib.Omega.{arith}
 use borrow.Author.Needs.{needs}
 use Rattle.wire.proofs.Spans.{number-value}

@@ -4,7 +4,7 @@ use mathlib.Core.Path.{_≡_, sym, _∙_}
 use native.Mathlib.Omega.{arith}
 use borrow.Author.Needs.{needs}
 use native.Mathlib.Nat.{sub-zero}
-use Rattle.wire.specs.Wire.{indexOf}
+use Rattle.lists.specs.Lists.{indexOf}
 use Rattle.nodes.specs.Records.{records, hashes}
 use Rattle.nodes.proofs.Walks.{find-hit, find-on, find-past, find-none}
 use Rattle.nodes.proofs.find.find.Statement.{statement}

@@ -4,7 +4,7 @@ use mathlib.Core.Path.{_≡_, refl, sym, _∙_}
 use native.Mathlib.Omega.{arith}
 use borrow.Author.Needs.{needs}
 use lib.ListN.{drop}
-use Rattle.wire.specs.Wire.{indexOf}
+use Rattle.lists.specs.Lists.{indexOf}
 use Rattle.nodes.specs.Records.{records, hashes}
 use Rattle.nodes.proofs.StartTable.{starts-space, start-in}
 use Rattle.nodes.proofs.Searches.{search-hit, search-on, search-none}

@@ -1,7 +1,7 @@
 -- An index was found, or none.
 use mathlib.Core.Path.{sym, ap, _∙_}
 use borrow.Author.Needs.{needs}
-use Rattle.wire.specs.Wire.{found}
+use Rattle.lists.specs.Lists.{found}
 use Rattle.nodes.proofs.Searches.{found-counted}
 use Rattle.nodes.proofs.find.has_from.Statement.{statement}
 use Rattle.nodes.proofs.find.has_from.Tie as tie

@@ -4,18 +4,18 @@ use native.Mathlib.Omega.{arith}
 use borrow.Author.Needs.{needs}
 use lib.ListN.{length-set}
 use Rattle.nodes.proofs.Walks.{record-in}
-use Rattle.nodes.proofs.Filling.{Filled, filled-start, filled-on, filled-past, filled-end}
+use Rattle.nodes.proofs.Filling.{Linking, linking-none, linking-on, linking-past, linking-all}
 use Rattle.nodes.proofs.links.fill_links.Statement.{statement}
 use Rattle.nodes.proofs.links.fill_links.Tie as tie
 
 abbrev Inv-loop : tie.InvT-loop
-Inv-loop s starts n out₀ total p₀ k₀ out p k = Filled s n out₀ out p k
+Inv-loop s starts n out₀ total p₀ k₀ out p k = Linking s n out₀ out p k
 
 abbrev μ-loop : tie.MeasureT-loop
 μ-loop s starts n out₀ total p₀ k₀ out p k = n - k
 
 loop-holds : tie.Need-loop-holds Inv-loop μ-loop
-loop-holds c = filled-start (c .before .before .before .pre .0 .sized)
+loop-holds c = linking-none (c .before .before .before .pre .0 .sized)
 
 record-end-requires : tie.Need-record-end-requires Inv-loop μ-loop
 record-end-requires c κs = search needs
@@ -72,7 +72,7 @@ loop-again : tie.Need-loop-again Inv-loop μ-loop
 loop-again c =
     let e = c .before .before .before .before .before in
     let turn = e .before .before .before .before in
-    filled-on (turn .loop .inv) (omega arith) (e .before .before .record-end .ensures) (e .q .given .1)
+    linking-on (turn .loop .inv) (omega arith) (e .before .before .record-end .ensures) (e .q .given .1)
     (turn .before .before .before .before .pre .1) (c .before .before .before .span .ensures)
     (c .before .before .first-link .ensures) (c .before .span2 .ensures) (c .second-link .ensures)
 
@@ -84,14 +84,14 @@ same-length c = search needs
 
 returns : tie.Need-returns Inv-loop μ-loop
 returns c =
-    filled-past (c .before .before .before .before .loop .inv) (omega arith) (c .before .before .record-end .ensures)
+    linking-past (c .before .before .before .before .loop .inv) (omega arith) (c .before .before .record-end .ensures)
     (c .enum-told .given .1)
 
 same-length-2 : tie.Need-same-length-2 Inv-loop μ-loop
 same-length-2 c = search needs
 
 returns-2 : tie.Need-returns-2 Inv-loop μ-loop
-returns-2 c = filled-end (c .before .loop .inv) (omega arith)
+returns-2 c = linking-all (c .before .loop .inv) (omega arith)
 
 pub fill-links-spec : {M : Type 1} → statement M
 fill-links-spec =

@@ -2,7 +2,7 @@
 use mathlib.Core.List.{[], _∷_}
 use borrow.Author.Needs.{needs}
 use Rattle.wire.specs.Wire.{ascii}
-use Rattle.sha256.specs.Running.{after}
+use Rattle.sha256.specs.Running.{stateAfter}
 use Rattle.sha256.proofs.Clients.{absorbed-after}
 use Rattle.nodes.specs.Records.{domainState}
 use Rattle.nodes.proofs.records.domain.Statement.{statement}
@@ -24,7 +24,7 @@ absorb-requires-2 : tie.Need-absorb-requires-2
 absorb-requires-2 c κs = search needs
 
 returns : tie.Need-returns
-unfolding domainState after
+unfolding domainState stateAfter
 returns c =
     rw (c .absorb2 .ensures, c .before .before .absorb .ensures, c .before .before .before .before .new .ensures)
     (absorbed-after (ascii "arboricx.merkle.node.v1") (0 ∷ []))

@@ -1,4 +1,4 @@
--- The payload is absorbed behind the domain, and finishing gives the hash of all.
+-- The payload is absorbed after the domain, and finishing gives the hash of all.
 use mathlib.Core.List.{[], _∷_, _++_}
 use borrow.Author.Needs.{needs}
 use Rattle.wire.specs.Wire.{ascii}

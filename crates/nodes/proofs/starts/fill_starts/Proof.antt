@@ -32,7 +32,7 @@ mul-out c = search needs
 slice-write-out : tie.Need-slice-write-out Inv-loop μ-loop
 slice-write-out c =
     let turn = c .before .before .before .before .before in
-    omega (arith, turn .loop .inv .long, turn .before .before .before .pre .1)
+    omega (arith, turn .loop .inv .fill .long, turn .before .before .before .pre .1)
 
 add-k : tie.Need-add-k Inv-loop μ-loop
 add-k c = search needs

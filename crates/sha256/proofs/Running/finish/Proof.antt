@@ -1,4 +1,4 @@
--- The count of bits fits behind what is buffered, or takes a block of its own.
+-- The count of bits fits after what is buffered, or takes a block of its own.
 use mathlib.Core.Path.{_≡_}
 use lib.ListN.{length}
 use Rattle.sha256.proofs.Finishing.{finish-one, finish-two}

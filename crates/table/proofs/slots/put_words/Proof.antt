@@ -1,4 +1,4 @@
--- Two stores, one behind the other.
+-- Two stores, one after the other.
 use native.Mathlib.Omega.{arith}
 use lib.ListN.{length-set}
 use borrow.Author.Needs.{needs}

@@ -1,0 +1,4 @@
+pub mod HeaderLaws
+pub mod Entries
+pub mod Surveys
+pub mod Stages

@@ -1,0 +1,4 @@
+pub mod Header
+pub mod Directory
+pub mod Survey
+pub mod Checks

@@ -1,0 +1,3 @@
+pub mod Frames
+pub mod Stand
+pub mod SoundFrames

@@ -1,0 +1,4 @@
+pub mod Rows
+pub mod Choice
+pub mod Laws
+pub mod Outcomes

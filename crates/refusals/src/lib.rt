@@ -1,0 +1,1 @@
+// Tables of refusals, their answers and the laws of these: no code.

@@ -1,0 +1,3 @@
+pub mod RuleWays
+pub mod StepWays
+pub mod Keeps

@@ -1,0 +1,3 @@
+pub mod Rules
+pub mod Step
+pub mod Ready
