@@ -1,5 +1,6 @@
 #include "bench_bundles.h"
 
+#include <stdio.h>
 #include <stdlib.h>
 #include <string.h>
 
@@ -41,7 +42,7 @@ static void add_child(struct record *r, const struct record *child)
 /* Record i: the leaf, or every third a stem, or a fork; each has children made before it, and no two are the same. */
 static void make_record(struct record *all, uint32_t i)
 {
-    static const uint8_t domain[24] = "arboricx.merkle.node.v1"; /* with the zero byte behind it */
+    static const uint8_t domain[24] = "arboricx.merkle.node.v1"; /* with the zero byte after it */
     uint8_t message[sizeof domain + MAX_PAYLOAD];
     struct record *r = &all[i];
     r->payload[0] = 0;
@@ -62,6 +63,22 @@ static int by_hash(const void *a, const void *b)
     return memcmp(((const struct record *)a)->hash, ((const struct record *)b)->hash, HASH);
 }
 
+void export_name_of(const struct bundle *b, uint32_t index, char out[EXPORT_NAME_BYTES])
+{
+    if (b->exports == 1) snprintf(out, EXPORT_NAME_BYTES, "main");
+    else snprintf(out, EXPORT_NAME_BYTES, "export %02u", (unsigned)index);
+}
+
+static void put_export(struct bundle *b, uint32_t index, const uint8_t hash[HASH])
+{
+    char name[EXPORT_NAME_BYTES];
+    export_name_of(b, index, name);
+    put_string(b, name);
+    put_bytes(b, hash, HASH);
+    put_string(b, "term");
+    put_string(b, "arboricx.abi.tree.v1");
+}
+
 static void put_manifest(struct bundle *b, const uint8_t hash[HASH])
 {
     static const char *const strings[] = {
@@ -78,11 +95,8 @@ static void put_manifest(struct bundle *b, const uint8_t hash[HASH])
     put_number(b, 1, 4); /* roots */
     put_bytes(b, hash, HASH);
     put_string(b, "default");
-    put_number(b, 1, 4); /* exports */
-    put_string(b, "main");
-    put_bytes(b, hash, HASH);
-    put_string(b, "term");
-    put_string(b, "arboricx.abi.tree.v1");
+    put_number(b, b->exports, 4);
+    for (uint32_t i = 0; i < b->exports; i++) put_export(b, i, hash);
     put_number(b, 0, 4); /* metadata fields */
     put_number(b, 0, 4); /* extension fields */
 }
@@ -122,7 +136,7 @@ static void put_entry(struct bundle *b, uint32_t type, size_t from, size_t to)
     put_bytes(b, digest, HASH);
 }
 
-void make_bundle(struct bundle *out, uint32_t nodes)
+void make_bundle(struct bundle *out, uint32_t nodes, uint32_t exports)
 {
     static struct record all[ARBORICX_MAX_NODES];
     uint8_t last[HASH];
@@ -132,6 +146,7 @@ void make_bundle(struct bundle *out, uint32_t nodes)
     qsort(all, nodes, sizeof *all, by_hash);
 
     out->nodes = nodes;
+    out->exports = exports;
     out->len = HEADER + SECTIONS * ENTRY; /* the sections first: the directory holds their digests */
     put_manifest(out, last);
     manifest = out->len;

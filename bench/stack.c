@@ -215,10 +215,9 @@ static size_t need(void (*what)(const struct call *), struct call call)
 
 static void row(const char *call, const char *input, size_t archive, size_t plain, size_t aim)
 {
-    printf("| stack of %s%s | %zu bytes |", call, input, archive);
+    printf("| %s%s | %zu bytes |", call, input, archive);
     if (plain != 0) printf(" %zu bytes |", plain);
     else printf(" |");
-    printf(" |");
     if (aim != 0) printf(" at most %zu |\n", aim);
     else printf(" |\n");
 }
@@ -274,16 +273,17 @@ static void chain_row(const struct workload *w)
     uint32_t answer[ARBORICX_RUN_ANSWER];
     arboricx_run(w->words, WORKLOAD_WORDS, 0, w->f, w->x, w->used, w->fuel, w->jobs, w->jobs_len, answer);
     const size_t bytes = plain_engine_need(w);
-    printf("| stack of plain_run, %s: %u steps, %u jobs waiting |", w->name, (unsigned)answer[ARBORICX_RUN_STEPS],
+    printf("| plain_run, %s: %u steps, %u jobs waiting |", w->name, (unsigned)answer[ARBORICX_RUN_STEPS],
            (unsigned)answer[ARBORICX_RUN_JOBS]);
-    printf(" %zu bytes, %.1f a level | | | at most %d |\n", bytes, (double)bytes / answer[ARBORICX_RUN_STEPS],
+    printf(" %zu bytes, %.1f a level | | at most %d |\n", bytes, (double)bytes / answer[ARBORICX_RUN_STEPS],
            ARBORICX_PLAIN_STACK);
 }
 
-void print_stack_rows(const struct bundle *bundles, size_t bundle_count, const struct workload workloads[WORKLOADS],
-                      const struct workload chains[CHAINS])
+void print_stack_table(const struct bundle *bundles, size_t bundle_count, const struct workload workloads[WORKLOADS],
+                       const struct workload chains[CHAINS])
 {
     const struct bundle *const last = &bundles[bundle_count - 1];
+    printf("\n| Stack | Archive | Plain C | Aim |\n|---|---|---|---|\n");
     for (size_t i = 0; i < bundle_count; i++) load_row(&bundles[i]);
     for (int i = 0; i < WORKLOADS; i++) run_row(&workloads[i]);
     for (int i = 0; i < WORKLOADS; i++) carry_on_row(&workloads[i]);

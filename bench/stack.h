@@ -7,8 +7,8 @@
 #include "bench_bundles.h"
 #include "workloads.h"
 
-/* Prints a row of the table for each call: the bytes of stack that it needs beyond those of an empty call. */
-void print_stack_rows(const struct bundle *bundles, size_t bundle_count, const struct workload workloads[WORKLOADS],
-                      const struct workload chains[CHAINS]);
+/* Prints a table with a row for each call: the bytes of stack that it needs beyond those of an empty call. */
+void print_stack_table(const struct bundle *bundles, size_t bundle_count, const struct workload workloads[WORKLOADS],
+                       const struct workload chains[CHAINS]);
 
 #endif
