@@ -24,7 +24,7 @@ use Rattle.container.specs.Directory.{entryAt, entriesFrom, entries, entryOf, s
 use Rattle.references.specs.References.{exportHashes}
 use Rattle.bundle.specs.Checks.{refusal}
 use Rattle.loader.specs.declared.LoadAnswer.the-variants.{Refused}
-use Rattle.loader.specs.Written.{recordSlot, slotNamed, recordNode, written, slotsNamed}
+use Rattle.unpacking.specs.Written.{recordSlot, slotNamed, recordNode, written, slotsNamed}
 use Rattle.loader.specs.Load.{recordsIn, exportsIn, unfit, crowded, Loaded, loaded, loadedWith, exportsWritten, accept, acceptFrom, load}
 use Rattle.loader.proofs.Refusals.{past-bundle}
 use Rattle.text.specs.Text.{digits, newline}

@@ -26,7 +26,7 @@ use Rattle.soundness.proofs.Meaning.{one-tree-each}
 use Rattle.loader.specs.declared.LoadAnswer.{LoadAnswer}
 use Rattle.loader.specs.declared.LoadAnswer.the-variants.{Refused, Accepted}
 use Rattle.loader.specs.Answer.{loadNumbers}
-use Rattle.loader.specs.Written.{slotNamed, written, slotsNamed}
+use Rattle.unpacking.specs.Written.{slotNamed, written, slotsNamed}
 use Rattle.loader.specs.Load.{unfit, loadRefusal, loaded, exportsWritten, accept, acceptFrom, load}
 use Rattle.guarantees.specs.Order.{TreesOf, none, more}
 use Rattle.guarantees.specs.Load.{NamedSlot, Loads, LoadLeaves}

@@ -28,7 +28,7 @@ use Rattle.soundness.specs.Graph.{Names, names-leaf, names-stem, names-fork}
 use Rattle.soundness.specs.NodesGrammar.{IsPayload, IsNodes}
 use Rattle.soundness.specs.NodesMeaning.{Closed}
 use Rattle.soundness.proofs.NodesHashes.{payload-children, payload-at, few-nodes}
-use Rattle.loader.specs.Written.{recordSlot, slotFound, slotNamed, recordNode, written}
+use Rattle.unpacking.specs.Written.{recordSlot, slotFound, slotNamed, recordNode, written}
 use Rattle.guarantees.specs.Session.{Holding}
 use Rattle.guarantees.specs.Order.{TreesOf, none as no-trees, more as more-trees}
 use Rattle.guarantees.proofs.PlacingOrder.{hash-among, order, order-long, at-slot}

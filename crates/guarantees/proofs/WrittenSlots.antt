@@ -9,7 +9,7 @@ use Rattle.table.specs.Slots.{room, putNode}
 use Rattle.table.proofs.SlotLaws.{Has, room-long, length-put, put-outside, put-here, put-other}
 use Rattle.nodes.specs.Records.{NodeRecord as Record, children}
 use Rattle.nodes.proofs.Children.{childrenAt}
-use Rattle.loader.specs.Written.{recordSlot, recordNode, written}
+use Rattle.unpacking.specs.Written.{recordSlot, recordNode, written}
 
 module _ (all : List Record) where
   pub written-long : (i : ℕ) (rs : List Record) (w : List ℕ) → length (written all i rs w) ≡ length w

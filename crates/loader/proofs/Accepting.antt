@@ -21,14 +21,15 @@ use Rattle.references.specs.References.{hashesFrom}
 use Rattle.references.proofs.Hashes.{export-hashes-length}
 use Rattle.bundle.proofs.Stages.{sound-shaped, sound-closed, sound-whole}
 use Rattle.bundle.proofs.Verdicts.{contents-shape, contents-manifest, contents-nodes}
-use Rattle.loader.specs.declared.exports.ExportList.{ExportList}
+use Rattle.unpacking.specs.declared.exports.ExportList.{ExportList}
 use Rattle.loader.specs.declared.LoadAnswer.{LoadAnswer}
 use Rattle.loader.specs.declared.LoadAnswer.the-variants.{Refused, Accepted}
-use Rattle.loader.specs.Written.{written, slotsNamed}
+use Rattle.unpacking.specs.Written.{written, slotsNamed}
 use Rattle.loader.specs.Load.{recordsIn, exportsIn, loaded, exportsWritten, accept}
 use Rattle.loader.specs.Admit.{fitChecks, admitted}
-use Rattle.loader.specs.Ready.{Slotted, RecordsReady, ListedIn, Vetted, Writable}
-use Rattle.loader.proofs.Writing.{count-is}
+use Rattle.loader.specs.Ready.{Vetted, Writable}
+use Rattle.unpacking.specs.Ready.{Slotted, RecordsReady, ListedIn}
+use Rattle.unpacking.proofs.Writing.{count-is}
 
 -- ---- the writing
 module _ {m : List ℕ} {x : ExportList} {s links slots w out : List ℕ} (h : Writable m x s links slots w out) where

@@ -1,8 +1,3 @@
-pub mod NodeLaws
-pub mod Placements
-pub mod Writing
-pub mod ExportLaws
-pub mod Naming
 pub mod Refusals
 pub mod Accepting
 pub mod Loading

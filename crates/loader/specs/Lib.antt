@@ -1,4 +1,3 @@
-pub mod Written
 pub mod Load
 pub mod Answer
 pub mod Admit

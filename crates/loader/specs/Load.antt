@@ -16,7 +16,7 @@ use Rattle.references.specs.References.{exportHashes}
 use Rattle.bundle.specs.Checks.{checks}
 use Rattle.loader.specs.declared.LoadAnswer.{LoadAnswer}
 use Rattle.loader.specs.declared.LoadAnswer.the-variants.{Refused, Accepted}
-use Rattle.loader.specs.Written.{written, slotsNamed}
+use Rattle.unpacking.specs.Written.{written, slotsNamed}
 
 -- the records and the exports of a file
 abbrev pub recordsIn : List ℕ → List Record

@@ -6,10 +6,6 @@ ghost use Rattle.manifest.specs.Judged.{exportsOf};
 ghost use Rattle.loader.specs.Load.{recordsIn, exportsIn, loaded, accept, load};
 ghost use Rattle.loader.specs.Admit.{startOf, fitChecks, admitted};
 ghost use Rattle.loader.specs.Ready.{Vetted, Writable};
-use crate::exports::ExportList;
-use crate::exports::list_exports;
-use crate::exports::put_exports;
-use crate::records::put_records;
 use bundle::Outline;
 use bundle::Verdict;
 use bundle::check_and_place;
@@ -18,9 +14,10 @@ use nodes::links::SLOT_WORDS;
 use nodes::records::count;
 use table::base::Base;
 use table::slots::room;
-
-mod exports;
-mod records;
+use unpacking::exports::ExportList;
+use unpacking::exports::list_exports;
+use unpacking::exports::put_exports;
+use unpacking::records::put_records;
 
 // What a load answers; specs/Answer.antt gives the paper's numbers for each case.
 pub enum LoadAnswer {

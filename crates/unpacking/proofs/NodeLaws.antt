@@ -9,7 +9,7 @@ use Rattle.table.specs.declared.slots.Node.{Node}
 use Rattle.table.specs.declared.slots.Node.the-variants.{Leaf, Stem, Fork}
 use Rattle.table.specs.Slots.{room, Below}
 use Rattle.placing.specs.Circles.{ChildLink as Linked, first, second}
-use Rattle.loader.specs.Ready.{PlacedAt, slotAt, linked}
+use Rattle.unpacking.specs.Ready.{PlacedAt, slotAt, linked}
 
 -- x and y stand for the slots of the children, as the calls answered them
 module _ (slots : List ℕ) where

@@ -3,9 +3,9 @@ use Prim.Native.Nat.{_+_, _*_}
 use native.Mathlib.Omega.{arith}
 use borrow.Author.Needs.{needs}
 use Rattle.placing.specs.Circles.{first, second}
-use Rattle.loader.proofs.NodeLaws.{linked-leaf, linked-stem, linked-fork, link-placed}
-use Rattle.loader.proofs.records.node_at.Statement.{statement}
-use Rattle.loader.proofs.records.node_at.Tie as tie
+use Rattle.unpacking.proofs.NodeLaws.{linked-leaf, linked-stem, linked-fork, link-placed}
+use Rattle.unpacking.proofs.records.node_at.Statement.{statement}
+use Rattle.unpacking.proofs.records.node_at.Tie as tie
 
 mul-a : tie.Need-mul-a
 mul-a c = search needs

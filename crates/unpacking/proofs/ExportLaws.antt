@@ -13,7 +13,7 @@ use Rattle.manifest.proofs.Counted.{exports-laid}
 use Rattle.references.specs.declared.Reference.the-variants.{Export}
 use Rattle.references.specs.References.{exportHashes, hashesFrom, hashesAt}
 use Rattle.references.proofs.Hashes.{hashes-exports}
-use Rattle.loader.specs.Ready.{ListedIn}
+use Rattle.unpacking.specs.Ready.{ListedIn}
 
 module _ (m : List ℕ) {l : Layout} (e : manifestOf m ≡ Shape l) where
   pub exports-inside : l .exports + 4 ≤ length m

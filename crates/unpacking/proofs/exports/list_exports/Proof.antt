@@ -1,9 +1,9 @@
 -- The exports of a manifest that has its shape.
 use native.Mathlib.Omega.{arith}
 use borrow.Author.Needs.{needs}
-use Rattle.loader.proofs.ExportLaws.{exports-inside, exports-listed}
-use Rattle.loader.proofs.exports.list_exports.Statement.{statement}
-use Rattle.loader.proofs.exports.list_exports.Tie as tie
+use Rattle.unpacking.proofs.ExportLaws.{exports-inside, exports-listed}
+use Rattle.unpacking.proofs.exports.list_exports.Statement.{statement}
+use Rattle.unpacking.proofs.exports.list_exports.Tie as tie
 
 count-at-requires : tie.Need-count-at-requires
 count-at-requires c κs = search needs

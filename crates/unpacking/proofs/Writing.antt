@@ -13,9 +13,9 @@ use Rattle.table.proofs.SlotLaws.{room-long, length-put}
 use Rattle.nodes.specs.Records.{NodeRecord as Record, nodesOf, count, shaped}
 use Rattle.nodes.proofs.Children.{childrenAt}
 use Rattle.nodes.proofs.Placing.{shaped-sized}
-use Rattle.loader.specs.Written.{recordSlot, recordNode, written}
-use Rattle.loader.specs.Ready.{RecordsReady, PlacedAt, slotAt, linked}
-use Rattle.loader.proofs.Placements.{slot-is, slot-low, placed-at, node-linked}
+use Rattle.unpacking.specs.Written.{recordSlot, recordNode, written}
+use Rattle.unpacking.specs.Ready.{RecordsReady, PlacedAt, slotAt, linked}
+use Rattle.unpacking.proofs.Placements.{slot-is, slot-low, placed-at, node-linked}
 
 -- the records of a section are as many as it says; n stands for the count, as the call answered it
 pub count-is : (s : List ℕ) {n : ℕ} → n ≡ count s → shaped s ≡ true → n ≡ length (nodesOf s)

@@ -4,8 +4,8 @@ ghost use Prim.Native.Nat.{_+_, _*_, _≤_, _<_};
 ghost use lib.ListN.{length, getD};
 ghost use Rattle.table.specs.Slots.{room, putNode};
 ghost use Rattle.nodes.specs.Records.{nodesOf};
-ghost use Rattle.loader.specs.Written.{written};
-ghost use Rattle.loader.specs.Ready.{RecordsReady, PlacedAt, slotAt, linked};
+ghost use Rattle.unpacking.specs.Written.{written};
+ghost use Rattle.unpacking.specs.Ready.{RecordsReady, PlacedAt, slotAt, linked};
 use nodes::records::count;
 use table::slots::Node;
 use table::slots::Slot;
@@ -48,7 +48,7 @@ fn put_record(links: &[u32], slots: &[u32], i: usize, words: &mut [u32])
 }
 
 // Writes all records of a section.
-pub(crate) fn put_records(s: &[u8], links: &[u32], slots: &[u32], words: &mut [u32])
+pub fn put_records(s: &[u8], links: &[u32], slots: &[u32], words: &mut [u32])
     requires { ⌜ RecordsReady (now s) (now links) (now slots) × (length (nodesOf (now s)) ≤ room (now words)) ⌝ }
     ensures { λ _. ⌜ now (words .exit)
         ≡ written (nodesOf (now (s .entry))) 0 (nodesOf (now (s .entry))) (now (words .entry)) ⌝ }

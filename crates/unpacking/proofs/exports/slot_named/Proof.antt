@@ -3,9 +3,9 @@ use mathlib.Core.Path.{ap}
 use native.Mathlib.Omega.{arith}
 use borrow.Author.Needs.{needs}
 use Rattle.table.specs.declared.slots.Slot.{Slot}
-use Rattle.loader.proofs.Placements.{named-there, named-found, named-lost}
-use Rattle.loader.proofs.exports.slot_named.Statement.{statement}
-use Rattle.loader.proofs.exports.slot_named.Tie as tie
+use Rattle.unpacking.proofs.Placements.{named-there, named-found, named-lost}
+use Rattle.unpacking.proofs.exports.slot_named.Statement.{statement}
+use Rattle.unpacking.proofs.exports.slot_named.Tie as tie
 
 find-record-requires : tie.Need-find-record-requires
 find-record-requires c κs = search needs

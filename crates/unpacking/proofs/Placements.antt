@@ -21,8 +21,8 @@ use Rattle.nodes.proofs.Children.{childrenAt, hashes-length, record-at, links-f
 use Rattle.nodes.proofs.Children.{Kids, none, one, two, kids-view}
 use Rattle.nodes.proofs.Slots.{slots-laid, slot-some, slot-most, slot-lower}
 use Rattle.nodes.proofs.FaultTests.{there-exactly}
-use Rattle.loader.specs.Written.{recordSlot, slotNamed, recordNode}
-use Rattle.loader.specs.Ready.{Slotted, RecordsReady, PlacedAt, slotAt, linked}
+use Rattle.unpacking.specs.Written.{recordSlot, slotNamed, recordNode}
+use Rattle.unpacking.specs.Ready.{Slotted, RecordsReady, PlacedAt, slotAt, linked}
 
 module _ {rs : List Record} {slots : List ℕ} (h : Slotted rs slots) where
   all : length rs ≤ placedOf rs .count

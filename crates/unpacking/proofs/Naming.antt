@@ -12,7 +12,7 @@ use Rattle.manifest.proofs.Lists.{list-step, list-stop}
 use Rattle.nodes.specs.Records.{NodeRecord as Record}
 use Rattle.references.specs.declared.Reference.the-variants.{Export}
 use Rattle.references.specs.References.{referenceEnd, referenceHash, hashesFrom}
-use Rattle.loader.specs.Written.{slotNamed, slotsNamed}
+use Rattle.unpacking.specs.Written.{slotNamed, slotsNamed}
 
 slots-length : (rs : List Record) (hs : List (List ℕ)) → length (slotsNamed rs hs) ≡ length hs
 unfolding slotsNamed

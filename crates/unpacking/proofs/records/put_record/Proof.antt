@@ -1,9 +1,9 @@
 -- The node that was read, in the record's slot.
 use mathlib.Core.Path.{_∙_}
 use borrow.Author.Needs.{needs}
-use Rattle.loader.proofs.NodeLaws.{placed-fits}
-use Rattle.loader.proofs.records.put_record.Statement.{statement}
-use Rattle.loader.proofs.records.put_record.Tie as tie
+use Rattle.unpacking.proofs.NodeLaws.{placed-fits}
+use Rattle.unpacking.proofs.records.put_record.Statement.{statement}
+use Rattle.unpacking.proofs.records.put_record.Tie as tie
 
 node-at-requires : tie.Need-node-at-requires
 node-at-requires c κs = search needs

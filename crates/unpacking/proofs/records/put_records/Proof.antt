@@ -3,9 +3,9 @@ use Prim.Native.Nat.{_-_}
 use native.Mathlib.Omega.{arith}
 use borrow.Author.Needs.{needs}
 use Rattle.nodes.specs.Records.{nodesOf}
-use Rattle.loader.proofs.Writing.{count-is, Stored, stored-start, stored-end, stored-fits, stored-on}
-use Rattle.loader.proofs.records.put_records.Statement.{statement}
-use Rattle.loader.proofs.records.put_records.Tie as tie
+use Rattle.unpacking.proofs.Writing.{count-is, Stored, stored-start, stored-end, stored-fits, stored-on}
+use Rattle.unpacking.proofs.records.put_records.Statement.{statement}
+use Rattle.unpacking.proofs.records.put_records.Tie as tie
 
 abbrev Inv-loop : tie.InvT-loop
 Inv-loop s links slots words₀ n i₀ words i = Stored (nodesOf s) words₀ words i

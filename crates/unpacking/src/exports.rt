@@ -7,8 +7,8 @@ ghost use Rattle.manifest_shape.specs.declared.Manifest.the-variants.{Shape};
 ghost use Rattle.manifest_shape.specs.Shape.{manifestOf};
 ghost use Rattle.nodes.specs.Records.{nodesOf};
 ghost use Rattle.references.specs.References.{hashesFrom};
-ghost use Rattle.loader.specs.Written.{slotNamed, slotsNamed};
-ghost use Rattle.loader.specs.Ready.{Slotted, ListedIn};
+ghost use Rattle.unpacking.specs.Written.{slotNamed, slotsNamed};
+ghost use Rattle.unpacking.specs.Ready.{Slotted, ListedIn};
 use crate::records::slot_at;
 use lists::Found;
 use manifest::content::count_at;
@@ -26,7 +26,7 @@ pub struct ExportList {
 }
 
 // By the section's layout.
-pub(crate) fn list_exports(m: &[u8], l: Layout) -> ExportList
+pub fn list_exports(m: &[u8], l: Layout) -> ExportList
     requires { ⌜ manifestOf (now m) ≡ Shape l ⌝ }
     ensures { λ r. ⌜ ListedIn (now (m .entry)) r ⌝ }
 {
@@ -52,7 +52,7 @@ fn slot_named(s: &[u8], slots: &[u32], h: &[u8]) -> u32
 }
 
 // Writes the slots of the n exports from a position on, in their order.
-pub(crate) fn put_exports(m: &[u8], n: usize, at: usize, s: &[u8], slots: &[u32], out: &mut [u32])
+pub fn put_exports(m: &[u8], n: usize, at: usize, s: &[u8], slots: &[u32], out: &mut [u32])
     requires { ⌜ Slotted (nodesOf (now s)) (now slots) × (n ≤ length (now out))
         × (length (hashesFrom (now m) Reference.Export n at) ≡ n) ⌝ }
     ensures { λ _. ⌜ now (out .exit)

@@ -3,9 +3,9 @@ use Prim.Native.Nat.{_-_}
 use native.Mathlib.Omega.{arith}
 use borrow.Author.Needs.{needs}
 use Rattle.nodes.specs.Records.{nodesOf}
-use Rattle.loader.proofs.Naming.{Naming, naming-none, naming-all, naming-bad, naming-on}
-use Rattle.loader.proofs.exports.put_exports.Statement.{statement}
-use Rattle.loader.proofs.exports.put_exports.Tie as tie
+use Rattle.unpacking.proofs.Naming.{Naming, naming-none, naming-all, naming-bad, naming-on}
+use Rattle.unpacking.proofs.exports.put_exports.Statement.{statement}
+use Rattle.unpacking.proofs.exports.put_exports.Tie as tie
 
 abbrev Inv-loop : tie.InvT-loop
 Inv-loop m n at s slots out₀ p₀ j₀ out p j = Naming m (nodesOf s) n at out₀ out p j

@@ -1,8 +1,8 @@
 -- The slot is one less than the word.
 use native.Mathlib.Omega.{arith}
 use borrow.Author.Needs.{needs}
-use Rattle.loader.proofs.records.slot_at.Statement.{statement}
-use Rattle.loader.proofs.records.slot_at.Tie as tie
+use Rattle.unpacking.proofs.records.slot_at.Statement.{statement}
+use Rattle.unpacking.proofs.records.slot_at.Tie as tie
 
 mul-t3 : tie.Need-mul-t3
 mul-t3 c = search needs
