@@ -3,7 +3,9 @@ ghost use mathlib.Core.Path.{_≡_};
 ghost use Rattle.refusals.specs.Refusals.{answer};
 ghost use Rattle.manifest_shape.specs.declared.Manifest.the-variants.{Shape};
 ghost use Rattle.manifest_shape.specs.Shape.{manifestOf};
-ghost use Rattle.nodes.specs.Records.{nodesOf};
+ghost use mathlib.Core.Bool.{true};
+ghost use Rattle.nodes.specs.Records.{nodesOf, count, shaped};
+ghost use Rattle.nodes.specs.Starts.{Starts};
 ghost use Rattle.nodes.specs.Links.{Scratch, PlacedTables};
 ghost use Rattle.container.specs.Directory.{nodesSection};
 ghost use Rattle.bundle.specs.Checks.{nodeChecks, refusal};
@@ -58,6 +60,38 @@ fn check_manifest(m: &[u8]) -> Checked
     }
 }
 
+// 16 to 20, of a nodes section that has the stated shape: the tests of its records, by where they start, and of what names them.
+fn check_records(
+    m: &[u8],
+    l: Layout,
+    s: &[u8],
+    starts: &[u32],
+    links: &mut [u32],
+    slots: &mut [u32],
+) -> u32
+    requires { ⌜ (manifestOf (now m) ≡ Shape l) × (shaped (now s) ≡ true)
+        × Starts (now s) (count (now s)) (now starts) × Scratch (now links) (now slots) ⌝ }
+    ensures { λ r. ⌜ (r ≡ answer (nodeChecks (now (m .entry)) (now (s .entry))))
+        × (r ≡ 0 → PlacedTables (nodesOf (now (s .entry))) (now (links .exit)) (now (slots .exit))) ⌝ }
+{
+    if nodes::faults::some_record(s, starts, RecordFault::Hash) {
+        return 16;
+    }
+    if nodes::faults::some_record(s, starts, RecordFault::Twice) {
+        return 17;
+    }
+    if nodes::faults::some_record(s, starts, RecordFault::Child) {
+        return 18;
+    }
+    if nodes::links::circular(s, starts, links, slots) {
+        return 19;
+    }
+    if unresolved(m, l, s) {
+        return 20;
+    }
+    0
+}
+
 // 15 to 20, of a manifest section with its layout and a nodes section. Where none holds, it leaves the links of the records and
 // their slots.
 fn check_nodes(m: &[u8], l: Layout, s: &[u8], links: &mut [u32], slots: &mut [u32]) -> u32
@@ -70,22 +104,7 @@ fn check_nodes(m: &[u8], l: Layout, s: &[u8], links: &mut [u32], slots: &mut [u3
     }
     let mut starts: [u32; START_WORDS] = [0; START_WORDS];
     nodes::starts::fill_starts(s, nodes::records::count(s), &mut starts);
-    if nodes::faults::some_record(s, &starts, RecordFault::Hash) {
-        return 16;
-    }
-    if nodes::faults::some_record(s, &starts, RecordFault::Twice) {
-        return 17;
-    }
-    if nodes::faults::some_record(s, &starts, RecordFault::Child) {
-        return 18;
-    }
-    if nodes::links::circular(s, &starts, links, slots) {
-        return 19;
-    }
-    if unresolved(m, l, s) {
-        return 20;
-    }
-    0
+    check_records(m, l, s, &starts, links, slots)
 }
 
 // 1 to 14, or what the file has.

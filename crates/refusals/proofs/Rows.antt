@@ -4,7 +4,7 @@ use mathlib.Core.Path.{_≡_, refl, sym, _∙_}
 use mathlib.Core.List.{List, [], _∷_, _++_}
 use mathlib.Core.Bool.{Bool, true, false, not}
 use native.Mathlib.Omega.{arith}
-use borrow.Author.Tests.{eqb-true, eq-eqb, ne-eqb, not-true, not-false}
+use borrow.Author.Tests.{eqb-true, eq-eqb, ne-eqb, lt-ltb, le-ltb, not-true, not-false}
 use lib.Dec.{eqb}
 use Rattle.lists.proofs.Same.{not-both}
 use Rattle.refusals.specs.Refusals.{Row, answer, unlessRefused, Clear, none, more, rowsBefore, rowHolds, Numbered}
@@ -43,6 +43,9 @@ told-turned p q = rw (← p) q
 
 -- what `search` builds from the tests of a function that were made so far: no row before this one holds, and this one does
 pub ruleset passing = (none, more, told, told-not, told-not-false)
+
+-- the same where the tests compare numbers in place
+pub ruleset comparing = (none, more, lt-ltb, le-ltb)
 
 -- a refusal by the row with the number n, where no row before it holds
 pub refuse : (n : ℕ) (rows : List Row) → Clear (rowsBefore n rows) → rowHolds n rows ≡ true → n ≡ answer rows
