@@ -15,7 +15,7 @@ check-nodes-spec =
     tie.close
     (tie.spec
     (λ c κs. search needs)
-    (λ c. (refuse 15 _ (search nodeRows) (search nodeRows), λ e. absurd (omega arith)))
+    (λ c. (refuse 15 _ (search nodeRows depth 20 fits 4000) (search nodeRows), λ e. absurd (omega arith)))
     (λ c κs. search needs)
     (λ c. search needs)
     (λ c κs. room-for-starts _ (c .before .count .ensures) (search told-not-false))

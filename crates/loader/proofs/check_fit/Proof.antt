@@ -10,6 +10,6 @@ unfolding fitChecks rowsBefore rowHolds
 check-fit-spec =
     tie.close
     (tie.spec
-    (λ c. refuse 21 _ (search comparing) (search comparing))
-    (λ c. refuse 22 _ (search comparing) (search comparing))
-    (λ c. accept _ (search comparing)))
+    (λ c. refuse 21 _ (search comparing depth 20 fits 4000) (search comparing))
+    (λ c. refuse 22 _ (search comparing depth 20 fits 4000) (search comparing))
+    (λ c. accept _ (search comparing depth 20 fits 4000)))

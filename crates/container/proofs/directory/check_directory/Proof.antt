@@ -12,13 +12,13 @@ unfolding directoryChecks rowsBefore rowHolds
 check-directory-spec =
     tie.close
     (tie.spec
-    (λ c. refuse 6 _ (search surveying depth 10) (search surveying depth 10))
-    (λ c. refuse 7 _ (search surveying depth 10) (search surveying depth 10))
-    (λ c. refuse 8 _ (search surveying depth 10) (search surveying depth 10))
+    (λ c. refuse 6 _ (search surveying depth 20 fits 4000) (search surveying depth 10))
+    (λ c. refuse 7 _ (search surveying depth 20 fits 4000) (search surveying depth 10))
+    (λ c. refuse 8 _ (search surveying depth 20 fits 4000) (search surveying depth 10))
     (λ c κs. search needs)
-    (λ c. refuse 9 _ (search surveying depth 10) (search surveying depth 10))
+    (λ c. refuse 9 _ (search surveying depth 20 fits 4000) (search surveying depth 10))
     (λ c κs. search needs)
-    (λ c. refuse 10 _ (search surveying depth 10) (search surveying depth 10))
+    (λ c. refuse 10 _ (search surveying depth 20 fits 4000) (search surveying depth 10))
     (λ c κs. search needs)
-    (λ c. refuse 11 _ (search surveying depth 10) (search surveying depth 10))
-    (λ c. accept _ (search surveying depth 10)))
+    (λ c. refuse 11 _ (search surveying depth 20 fits 4000) (search surveying depth 10))
+    (λ c. accept _ (search surveying depth 20 fits 4000)))

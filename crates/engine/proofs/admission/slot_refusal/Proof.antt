@@ -13,9 +13,9 @@ slot-refusal-spec =
     tie.close
     (tie.spec
     (λ c κs. search needs)
-    (λ c. refuse 21 _ (search rowsOfSlots) (search rowsOfSlots))
+    (λ c. refuse 21 _ (search rowsOfSlots depth 20 fits 4000) (search rowsOfSlots))
     (λ c κs. search needs)
-    (λ c. refuse 23 _ (search rowsOfSlots) (search rowsOfSlots))
+    (λ c. refuse 23 _ (search rowsOfSlots depth 20 fits 4000) (search rowsOfSlots))
     (λ c κs. search told-in-room)
-    (λ c. refuse 24 _ (search rowsOfSlots) (search rowsOfSlots))
-    (λ c. accept _ (search rowsOfSlots)))
+    (λ c. refuse 24 _ (search rowsOfSlots depth 20 fits 4000) (search rowsOfSlots))
+    (λ c. accept _ (search rowsOfSlots depth 20 fits 4000)))

@@ -12,7 +12,7 @@ stop-refusal-spec =
     tie.close
     (tie.spec
     (λ c κs. search needs)
-    (λ c. refuse 24 _ (search passing) (search passing))
+    (λ c. refuse 24 _ (search passing depth 20 fits 4000) (search passing))
     (λ c κs. search needs)
-    (λ c. refuse 40 _ (search passing) (search passing))
-    (λ c. accept _ (search passing)))
+    (λ c. refuse 40 _ (search passing depth 20 fits 4000) (search passing))
+    (λ c. accept _ (search passing depth 20 fits 4000)))
