@@ -14,8 +14,8 @@ Each page is one table, with headings between groups of rows. What stands in `..
 Where several files declare a name, it is written crate/Module.name.
 It fails unless every reference is there; no two definitions of specs/ share a name; each statement has in its row a proof of that type, the statement itself or applied to calls,
 with no hypothesis, and each proof of a declared statement has that in its row; every must-fail edit stands in just one row; every field
-of those records, every statement that is proved, every function that is exported for C and every public call stands in some row, a
-field in one that has an edit or says where it is; and the contracts of these functions say what tests/contracts.py wants of them.
+of those records, every statement that is proved, every function that is exported for C and every public call stands in some row, a field
+and a statement in one that has an edit or says where it is; and the contracts of these functions say what tests/contracts.py wants of them.
 
 Then the same is asked of pages and sources that are wrong, each in one way; the test fails if one of them passes.
 """
@@ -238,6 +238,8 @@ def faults(texts):
     found += [f"{tree.field_place(field)}: {field}: stands in no row" for field in tree.fields if field not in standing["Statement"]]
     tried = {name for row in rows if row.cells[-1] for name in row.names["Statement"]}
     found += [f"{tree.field_place(field)}: {field}: no row of it has an edit, or says where" for field in tree.fields if field not in tried]
+    untried = [(name, row) for name, row in standing["Statement"].items() if name not in tree.fields and name not in tried]
+    found += [f"{row.place}: {name}: no row of it has an edit, or says where" for name, row in untried]
     for proof, statement in tree.proved.items():
         statement = statement.split()[0]
         crate, module, name = re.fullmatch(r"(\w+)/(.+)\.(\S+)", statement).groups()
@@ -303,6 +305,9 @@ def wrong(texts):
     yield "an edit in two rows", twice, f"{crate}: {label}: stands in {row.place} too"
     field, row = next((f, of[0]) for f in tree.fields if len(of := [r for r in rows if f in r.names["Statement"]]) == 1 and of[0].edits)
     yield f"{field} with no edit", in_row(row, f"| {row.cells[-1]} |", "| |"), f"{field}: no row of it has an edit"
+    statements = [(name, r) for r in rows if r.edits for name in r.names["Statement"] if name not in tree.fields]
+    name, row = next((name, r) for name, r in statements if sum(name in other.names["Statement"] for other in rows) == 1)
+    yield f"{name} with no edit", in_row(row, f"| {row.cells[-1]} |", "| |"), f"{name}: no row of it has an edit"
     yield "a path that is not there", {page: texts[page] + "\nSee docs/NOWHERE.md.\n"}, "there is no docs/NOWHERE.md"
     yield "one in a row", in_row(row, "| ", "| docs/NOWHERE.md "), f"{row.place}: there is no docs/NOWHERE.md"
     for field in (next(f for f in tree.fields if tree.fields[f][0].module.path == path) for path in RECORDS):
