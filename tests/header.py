@@ -22,7 +22,7 @@ SOURCE = "\n".join(path.read_text() for path in sorted((ROOT / "crates/arboricx/
 HEADER = (ROOT / "include/arboricx.h").read_text()
 SIZES = (ROOT / "crates/sizes/src/lib.rt").read_text()
 LIMITS = (ROOT / "crates/table/src/limits.rt").read_text()
-PLAIN = (ROOT / "crates/plain/src/lib.rt").read_text()
+APPLYING = (ROOT / "crates/applying/src/lib.rt").read_text()
 
 C_TYPE = {"u8": "uint8_t", "u32": "uint32_t", "i32": "int32_t", "usize": "size_t"}
 
@@ -83,7 +83,7 @@ def limits():
         "ARBORICX_MAX_NAME": most["NAME"],
         "ARBORICX_MAX_SLOTS": cap["SLOTS"],
         "ARBORICX_MAX_JOBS": cap["FRAMES"],
-        "ARBORICX_MAX_PLAIN": int(re.search(r"const MOST: u32 = (\d+)", PLAIN)[1]),
+        "ARBORICX_MAX_PLAIN": int(re.search(r"const MOST: u32 = (\d+)", APPLYING)[1]),
     }
 
 

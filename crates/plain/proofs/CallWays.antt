@@ -1,8 +1,8 @@
 -- The ways through the plain engine's call.
 use Prim.Native.Nat.{ℕ, _-_, _≤_, _<_}
 use mathlib.Core.Path.{_≡_, sym, ap, _∙_, subst}
-use mathlib.Core.Bool.{Bool, true, cond}
-use mathlib.Core.List.{List, [], _∷_}
+use mathlib.Core.Bool.{true, false}
+use mathlib.Core.List.{List}
 use native.Mathlib.Omega.{arith}
 use lib.Dec.{ltb}
 use lib.IntN.{ℤ, pos, natAbs}
@@ -14,8 +14,8 @@ use mir.Val.{toZ, ofZ}
 use mir.ValLaws.{toZ-pos}
 use Rattle.lists.specs.Lists.{anyOf}
 use Rattle.lists.proofs.Tests.{cond-test}
-use Rattle.refusals.specs.Refusals.{_when_, answer, Clear, Numbered}
-use Rattle.refusals.proofs.Rows.{answer-clear, clear-before, refused-first, passed-first}
+use Rattle.refusals.specs.Refusals.{answer, Clear, none, more, rowsBefore, rowHolds, Numbered}
+use Rattle.refusals.proofs.Rows.{refuse, accept, answer-clear, clear-joined, clear-before, refused-first}
 use Rattle.refusals.proofs.Choice.{is-refused, is-passed}
 use Rattle.table.specs.declared.base.Base.{Base}
 use Rattle.table.specs.declared.base.Base.the-variants as base
@@ -29,16 +29,16 @@ use Rattle.table.proofs.SlotLaws.{room-most}
 use Rattle.engine.specs.declared.From.the-variants.{Scratch}
 use Rattle.engine.specs.Admission.{slotRows}
 use Rattle.engine.proofs.AdmissionLaws.{slot-numbered, clear-named, clear-ready}
-use Rattle.plain.specs.declared.Progress.{Progress}
-use Rattle.plain.specs.declared.Applied.{Applied}
-use Rattle.plain.specs.declared.Applied.the-variants.{Gave, Halted}
+use Rattle.applying.specs.declared.Progress.{Progress}
+use Rattle.applying.specs.declared.Applied.{Applied}
+use Rattle.applying.specs.declared.Applied.the-variants.{Gave, Halted}
+use Rattle.applying.specs.Apply.{came, apply}
+use Rattle.applying.specs.Fit.{Fit, Ends}
+use Rattle.applying.proofs.Depth.{Falls, apply-falls}
+use Rattle.applying.proofs.Keeps.{Keeps, apply-keeps}
 use Rattle.plain.specs.declared.PlainAnswer.{PlainAnswer}
 use Rattle.plain.specs.declared.PlainAnswer.the-variants.{Refused, Done, Stopped}
-use Rattle.plain.specs.Apply.{came, apply}
-use Rattle.plain.specs.Fit.{Fit, Ends}
 use Rattle.plain.specs.Run.{played, answered, mostPlain, tooDeep, plainRows, plainTail, playedWith, plainRun}
-use Rattle.plain.proofs.Depth.{Falls, apply-falls}
-use Rattle.plain.proofs.Keeps.{Keeps, apply-keeps}
 
 -- ---- the answer
 
@@ -76,14 +76,24 @@ module _ (w : List ℕ) (f x : ℤ) (used fuel places : ℕ) where
     slots-told : n ≡ answer (slotRows w f x used)
     slots-told = rw (← ef, ← ex) e
 
+    -- a row of the slots refuses,
     pub refused-slots : (n ≡ 0 → ⊥) → n ≡ answer (plainRows w f x used fuel places)
     unfolding plainRows
     refused-slots z = refused-first (slotRows w f x used) _ slots-told z
 
-    pub refused-deep : n ≡ 0 → (t : Bool) → t ≡ tooDeep fuel places → cond t 49 0 ≡ answer (plainRows w f x used fuel places)
-    unfolding plainRows answer
-    refused-deep z t h =
-        (rw h) ∙ sym (passed-first ((49 when tooDeep fuel places) ∷ []) (answer-clear (slotRows w f x used) (slot-numbered w f x used) slots-told z))
+    module _ (z : n ≡ 0) where
+      slots-passed : Clear (slotRows w f x used)
+      slots-passed = answer-clear _ (slot-numbered w f x used) slots-told z
+
+      -- 49 does,
+      pub refused-deep : tooDeep fuel places ≡ true → 49 ≡ answer (plainRows w f x used fuel places)
+      unfolding plainRows slotRows rowsBefore rowHolds
+      refused-deep h = refuse 49 (plainRows w f x used fuel places) slots-passed h
+
+      -- or nothing
+      pub refused-none : tooDeep fuel places ≡ false → 0 ≡ answer (plainRows w f x used fuel places)
+      unfolding plainRows
+      refused-none h = accept (plainRows w f x used fuel places) (clear-joined slots-passed (more h none))
 
 -- ---- on our part of the table
 

@@ -7,8 +7,8 @@ use Rattle.table.specs.Slots.{room, isUsed, firstAt, secondAt, putWords, nodeAt
 use Rattle.table.specs.Sound.{slotSound, sound}
 use Rattle.frames.specs.Frames.{frameRoom}
 use Rattle.engine.specs.Admission.{outOfRoom, dangling, unsound, slotRows}
-use Rattle.plain.specs.Rules.{rules, rule}
-use Rattle.plain.specs.Apply.{make, carryOut, apply}
+use Rattle.applying.specs.Rules.{rules, rule}
+use Rattle.applying.specs.Apply.{make, carryOut, apply}
 use Rattle.plain.specs.Run.{tooDeep, plainRows, plainTail, plainRun}
 use Rattle.plain.specs.Cases.{PlainCasesHold, PlainFurtherHold}
 

@@ -1,8 +1,3 @@
-pub mod RuleLaws
-pub mod RuleWays
-pub mod Depth
-pub mod Keeps
-pub mod Ways
 pub mod CallWays
 pub mod Sim
 pub mod PlainIsRun

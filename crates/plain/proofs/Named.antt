@@ -11,13 +11,13 @@ use Rattle.table.proofs.BaseLaws.{by-base}
 use Rattle.table.proofs.SlotLaws.{room-most}
 use Rattle.engine.specs.declared.From.the-variants.{Scratch}
 use Rattle.engine.proofs.AdmissionLaws.{clear-ready}
-use Rattle.plain.specs.declared.Progress.{Progress}
-use Rattle.plain.specs.declared.Applied.the-variants.{Gave, Halted}
+use Rattle.applying.specs.declared.Progress.{Progress}
+use Rattle.applying.specs.declared.Applied.the-variants.{Gave, Halted}
+use Rattle.applying.specs.Apply.{Came, came, apply}
+use Rattle.applying.proofs.Keeps.{Keeps, apply-keeps}
 use Rattle.plain.specs.declared.PlainAnswer.the-variants.{Refused}
-use Rattle.plain.specs.Apply.{Came, came, apply}
 use Rattle.plain.specs.Run.{Played, played, answered, plainRows, plainTail, playedWith, plainRun}
 use Rattle.plain.specs.Named.{PlainSlotUsed, PlainSlotNamed}
-use Rattle.plain.proofs.Keeps.{Keeps, apply-keeps}
 use Rattle.plain.proofs.CallWays.{plain-numbered, plain-slots}
 
 abbrev Names : Played → Type 0

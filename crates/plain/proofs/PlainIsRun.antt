@@ -22,10 +22,10 @@ use Rattle.engine.specs.Admission.{slotRows, runRows}
 use Rattle.engine.specs.Run.{Ran, ran, drive, stateFrom, runTail, ranWith, runFrom}
 use Rattle.stepping.proofs.Keeps.{waits-none}
 use Rattle.engine.proofs.AdmissionLaws.{clear-ready, run-numbered, run-slots}
-use Rattle.plain.specs.declared.Progress.{Progress}
-use Rattle.plain.specs.declared.Applied.the-variants.{Gave, Halted}
+use Rattle.applying.specs.declared.Progress.{Progress}
+use Rattle.applying.specs.declared.Applied.the-variants.{Gave, Halted}
+use Rattle.applying.specs.Apply.{Came, came, apply}
 use Rattle.plain.specs.declared.PlainAnswer.the-variants.{Refused}
-use Rattle.plain.specs.Apply.{Came, came, apply}
 use Rattle.plain.specs.Run.{played, answered, mostPlain, tooDeep, plainRows, plainTail, playedWith, plainRun}
 use Rattle.plain.specs.Meaning.{shown, ofRun, PlainIsRun}
 use Rattle.plain.proofs.CallWays.{deep-places}

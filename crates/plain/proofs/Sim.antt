@@ -31,17 +31,17 @@ use Rattle.stepping.specs.Step.{Stepped, Met, met, beside, meetFrame, meet, car
 use Rattle.stepping.specs.Ready.{Waits}
 use Rattle.engine.specs.Run.{Ran, ran, finished, resume, drive}
 use Rattle.stepping.proofs.Keeps.{waits-more, waits-put}
-use Rattle.plain.specs.declared.Progress.{Progress}
-use Rattle.plain.specs.declared.Applied.the-variants.{Gave, Halted}
-use Rattle.plain.specs.declared.Task.{Task}
-use Rattle.plain.specs.declared.Task.the-variants.{Make, Give, Go, Both, Then}
-use Rattle.plain.specs.Rules.{rule}
-use Rattle.plain.specs.Apply.{Came, came, appliedThen, spend, grow, make, carryOut, apply}
+use Rattle.applying.specs.declared.Progress.{Progress}
+use Rattle.applying.specs.declared.Applied.the-variants.{Gave, Halted}
+use Rattle.applying.specs.declared.Task.{Task}
+use Rattle.applying.specs.declared.Task.the-variants.{Make, Give, Go, Both, Then}
+use Rattle.applying.specs.Rules.{rule}
+use Rattle.applying.specs.Apply.{Came, came, appliedThen, spend, grow, make, carryOut, apply}
+use Rattle.applying.specs.Fit.{TaskNames}
+use Rattle.applying.proofs.RuleLaws.{action, same-rule, rule-names}
+use Rattle.applying.proofs.Depth.{apply-none, apply-some}
 use Rattle.plain.specs.declared.PlainAnswer.the-variants.{Refused, Done, Stopped}
 use Rattle.plain.specs.Run.{Played, played, answered}
-use Rattle.plain.specs.Fit.{TaskNames}
-use Rattle.plain.proofs.RuleLaws.{action, same-rule, rule-names}
-use Rattle.plain.proofs.Depth.{apply-none, apply-some}
 
 -- what a plain run tells of what a run leaves and answers
 abbrev pub plainOf : Ran → Played

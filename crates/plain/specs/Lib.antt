@@ -1,6 +1,3 @@
-pub mod Rules
-pub mod Apply
-pub mod Fit
 pub mod Run
 pub mod Answer
 pub mod Named

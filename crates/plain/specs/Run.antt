@@ -9,10 +9,10 @@ use Rattle.refusals.specs.Refusals.{Row, _when_, answer, unlessRefused}
 use Rattle.table.specs.Base.{fromBase}
 use Rattle.table.specs.Slots.{namedSlot}
 use Rattle.engine.specs.Admission.{slotRows}
-use Rattle.plain.specs.declared.Applied.the-variants.{Gave, Halted}
+use Rattle.applying.specs.declared.Applied.the-variants.{Gave, Halted}
+use Rattle.applying.specs.Apply.{Came, came, apply}
 use Rattle.plain.specs.declared.PlainAnswer.{PlainAnswer}
 use Rattle.plain.specs.declared.PlainAnswer.the-variants.{Refused, Done, Stopped}
-use Rattle.plain.specs.Apply.{Came, came, apply}
 
 -- the word table at exit, and the answer
 pub data Played : Type 0 where

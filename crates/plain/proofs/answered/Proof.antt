@@ -1,7 +1,7 @@
 -- A tree that is given, or a stop.
 use mathlib.Core.Path.{subst}
 use borrow.Author.Needs.{needs}
-use Rattle.plain.specs.Fit.{Ends}
+use Rattle.applying.specs.Fit.{Ends}
 use Rattle.plain.proofs.CallWays.{answered-gave, answered-halted}
 use Rattle.plain.proofs.answered.Statement.{statement}
 use Rattle.plain.proofs.answered.Tie as tie

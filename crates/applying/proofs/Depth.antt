@@ -9,12 +9,12 @@ use borrow.Author.Tests.{eq-eqb, ne-eqb}
 use Rattle.table.specs.declared.slots.Slot.{Slot}
 use Rattle.table.specs.Slots.{room}
 use Rattle.table.proofs.Tests.{by-test}
-use Rattle.plain.specs.declared.Progress.{Progress}
-use Rattle.plain.specs.declared.Applied.the-variants.{Gave, Halted}
-use Rattle.plain.specs.declared.Task.{Task}
-use Rattle.plain.specs.declared.Task.the-variants.{Make, Give, Go, Both, Then}
-use Rattle.plain.specs.Rules.{rule}
-use Rattle.plain.specs.Apply.{Came, came, appliedThen, spend, make, Application, carryOut, apply, FuelEnds}
+use Rattle.applying.specs.declared.Progress.{Progress}
+use Rattle.applying.specs.declared.Applied.the-variants.{Gave, Halted}
+use Rattle.applying.specs.declared.Task.{Task}
+use Rattle.applying.specs.declared.Task.the-variants.{Make, Give, Go, Both, Then}
+use Rattle.applying.specs.Rules.{rule}
+use Rattle.applying.specs.Apply.{Came, came, appliedThen, spend, make, Application, carryOut, apply, FuelEnds}
 
 -- ---- the fuel never grows
 

@@ -12,10 +12,10 @@ use Rattle.stepping.specs.Rules.{SlotAction, onArgument, onFork, onFunction}
 use Rattle.stepping.specs.Rules as run
 use Rattle.stepping.specs.Ready.{Asks}
 use Rattle.stepping.proofs.Keeps.{rule-asks}
-use Rattle.plain.specs.declared.Task.{Task}
-use Rattle.plain.specs.declared.Task.the-variants.{Make, Give, Go, Both, Then}
-use Rattle.plain.specs.Rules.{rules, firstChild, rule}
-use Rattle.plain.specs.Fit.{TaskNames}
+use Rattle.applying.specs.declared.Task.{Task}
+use Rattle.applying.specs.declared.Task.the-variants.{Make, Give, Go, Both, Then}
+use Rattle.applying.specs.Rules.{rules, firstChild, rule}
+use Rattle.applying.specs.Fit.{TaskNames}
 
 -- what the run's rule asks for where the plain engine's leaves a task
 abbrev pub action : Task → SlotAction

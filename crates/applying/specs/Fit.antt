@@ -7,11 +7,11 @@ use Rattle.table.specs.declared.slots.Node.the-variants.{Leaf}
 use Rattle.table.specs.Limits.{maxSlots}
 use Rattle.table.specs.Slots.{Below}
 use Rattle.table.specs.Sound.{SlotsPass}
-use Rattle.plain.specs.declared.Progress.{Progress}
-use Rattle.plain.specs.declared.Applied.{Applied}
-use Rattle.plain.specs.declared.Applied.the-variants.{Gave, Halted}
-use Rattle.plain.specs.declared.Task.{Task}
-use Rattle.plain.specs.declared.Task.the-variants.{Make, Give, Go, Both, Then}
+use Rattle.applying.specs.declared.Progress.{Progress}
+use Rattle.applying.specs.declared.Applied.{Applied}
+use Rattle.applying.specs.declared.Applied.the-variants.{Gave, Halted}
+use Rattle.applying.specs.declared.Task.{Task}
+use Rattle.applying.specs.declared.Task.the-variants.{Make, Give, Go, Both, Then}
 
 -- what applying f to x works on
 pub record Fit (w : List ℕ) (f x : Slot) (p : Progress) : Type 0 where

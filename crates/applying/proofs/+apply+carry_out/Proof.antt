@@ -5,20 +5,20 @@ use native.Mathlib.Omega.{arith}
 use borrow.Author.Needs.{needs}
 use borrow.Fn.Kinds.{In}
 use borrow.Fn.PlainCycle.{Measures, is, falls, and}
-use Rattle.plain.proofs.apply.Reads as apply
-use Rattle.plain.proofs.apply.Kinds as apply-kinds
-use Rattle.plain.proofs.+apply+carry_out.Lts-apply as apply-lts
-use Rattle.plain.proofs.carry_out.Reads as carry-out
-use Rattle.plain.proofs.carry_out.Kinds as carry-out-kinds
-use Rattle.plain.proofs.+apply+carry_out.Lts-carry_out as carry-out-lts
-use Rattle.plain.proofs.Progress.spend.Reads as spend-reads
-use Rattle.plain.proofs.make.Reads as make-reads
-use Rattle.plain.proofs.rule.Reads as rule-reads
-use Rattle.plain.proofs.Ways.{returns-none, returns-some, reads-rule, rule-able, make-able, out-make, out-give, out-go, call-go}
-use Rattle.plain.proofs.Ways.{both-full, both-first, both-halted, both-second, both-stopped, both-third, both-done}
-use Rattle.plain.proofs.Ways.{then-full, then-first, then-halted, then-second, then-done}
-use Rattle.plain.proofs.+apply+carry_out.{statement}
-use Rattle.plain.proofs.+apply+carry_out.Tie.{close}
+use Rattle.applying.proofs.apply.Reads as apply
+use Rattle.applying.proofs.apply.Kinds as apply-kinds
+use Rattle.applying.proofs.+apply+carry_out.Lts-apply as apply-lts
+use Rattle.applying.proofs.carry_out.Reads as carry-out
+use Rattle.applying.proofs.carry_out.Kinds as carry-out-kinds
+use Rattle.applying.proofs.+apply+carry_out.Lts-carry_out as carry-out-lts
+use Rattle.applying.proofs.Progress.spend.Reads as spend-reads
+use Rattle.applying.proofs.make.Reads as make-reads
+use Rattle.applying.proofs.rule.Reads as rule-reads
+use Rattle.applying.proofs.Ways.{returns-none, returns-some, reads-rule, rule-able, make-able, out-make, out-give, out-go, call-go}
+use Rattle.applying.proofs.Ways.{both-full, both-first, both-halted, both-second, both-stopped, both-third, both-done}
+use Rattle.applying.proofs.Ways.{then-full, then-first, then-halted, then-second, then-done}
+use Rattle.applying.proofs.+apply+carry_out.{statement}
+use Rattle.applying.proofs.+apply+carry_out.Tie.{close}
 
 abbrev μ-apply : Measures 1 apply-kinds.ps ℕ
 μ-apply κs a = 2 * (a .1 .1 .1 .0 .left) + 1

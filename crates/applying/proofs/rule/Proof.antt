@@ -2,9 +2,9 @@
 use mathlib.Core.Path.{sym, subst, _∙_}
 use borrow.Author.Needs.{needs}
 use Rattle.table.specs.Slots.{room, Below}
-use Rattle.plain.proofs.RuleWays.{by-1, by-2, by-3, by-4, by-5, by-6, by-7}
-use Rattle.plain.proofs.rule.Statement.{statement}
-use Rattle.plain.proofs.rule.Tie as tie
+use Rattle.applying.proofs.RuleWays.{by-1, by-2, by-3, by-4, by-5, by-6, by-7}
+use Rattle.applying.proofs.rule.Statement.{statement}
+use Rattle.applying.proofs.rule.Tie as tie
 
 node-at-requires : tie.Need-node-at-requires
 node-at-requires c κs = search needs

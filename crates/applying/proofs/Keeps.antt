@@ -9,14 +9,14 @@ use Rattle.table.specs.Slots.{room}
 use Rattle.table.specs.Sound.{SlotsPass}
 use Rattle.table.proofs.Tests.{by-test}
 use Rattle.table.proofs.SoundLaws.{sound-next}
-use Rattle.plain.specs.declared.Progress.{Progress}
-use Rattle.plain.specs.declared.Applied.the-variants.{Gave, Halted}
-use Rattle.plain.specs.declared.Task.{Task}
-use Rattle.plain.specs.declared.Task.the-variants.{Make, Give, Go, Both, Then}
-use Rattle.plain.specs.Rules.{rule}
-use Rattle.plain.specs.Fit.{TaskNames}
-use Rattle.plain.specs.Apply.{Came, came, appliedThen, spend, make, Application, carryOut, apply}
-use Rattle.plain.proofs.RuleLaws.{rule-names}
+use Rattle.applying.specs.declared.Progress.{Progress}
+use Rattle.applying.specs.declared.Applied.the-variants.{Gave, Halted}
+use Rattle.applying.specs.declared.Task.{Task}
+use Rattle.applying.specs.declared.Task.the-variants.{Make, Give, Go, Both, Then}
+use Rattle.applying.specs.Rules.{rule}
+use Rattle.applying.specs.Fit.{TaskNames}
+use Rattle.applying.specs.Apply.{Came, came, appliedThen, spend, make, Application, carryOut, apply}
+use Rattle.applying.proofs.RuleLaws.{rule-names}
 
 -- where so many slots were used
 pub record Kept (used : ℕ) (w : List ℕ) (t : Slot) (q : Progress) : Type 0 where

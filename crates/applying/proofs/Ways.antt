@@ -8,17 +8,17 @@ use Rattle.table.specs.declared.slots.Slot.{Slot}
 use Rattle.table.specs.declared.slots.Node.{Node}
 use Rattle.table.specs.Slots.{slot, room, nodeAt, putNode, Below}
 use Rattle.stepping.proofs.Keeps.{below-more, children}
-use Rattle.plain.specs.declared.Progress.{Progress}
-use Rattle.plain.specs.declared.Applied.{Applied}
-use Rattle.plain.specs.declared.Applied.the-variants.{Gave, Halted}
-use Rattle.plain.specs.declared.Task.{Task}
-use Rattle.plain.specs.declared.Task.the-variants.{Make, Give, Go, Both, Then}
-use Rattle.plain.specs.Rules.{rule}
-use Rattle.plain.specs.Apply.{Came, came, appliedThen, spend, grow, make, carryOut, apply}
-use Rattle.plain.specs.Fit.{Fit, TaskNames, Able}
-use Rattle.plain.proofs.RuleLaws.{rule-names}
-use Rattle.plain.proofs.Depth.{Falls, apply-falls, apply-none, apply-some, apply-deep}
-use Rattle.plain.proofs.Keeps.{Kept, Keeps, apply-keeps}
+use Rattle.applying.specs.declared.Progress.{Progress}
+use Rattle.applying.specs.declared.Applied.{Applied}
+use Rattle.applying.specs.declared.Applied.the-variants.{Gave, Halted}
+use Rattle.applying.specs.declared.Task.{Task}
+use Rattle.applying.specs.declared.Task.the-variants.{Make, Give, Go, Both, Then}
+use Rattle.applying.specs.Rules.{rule}
+use Rattle.applying.specs.Apply.{Came, came, appliedThen, spend, grow, make, carryOut, apply}
+use Rattle.applying.specs.Fit.{Fit, TaskNames, Able}
+use Rattle.applying.proofs.RuleLaws.{rule-names}
+use Rattle.applying.proofs.Depth.{Falls, apply-falls, apply-none, apply-some, apply-deep}
+use Rattle.applying.proofs.Keeps.{Kept, Keeps, apply-keeps}
 
 -- ---- a new node
 

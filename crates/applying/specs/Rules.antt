@@ -5,8 +5,8 @@ use Rattle.table.specs.declared.slots.Slot.{Slot}
 use Rattle.table.specs.declared.slots.Node.{Node}
 use Rattle.table.specs.declared.slots.Node.the-variants.{Leaf, Stem, Fork}
 use Rattle.table.specs.Slots.{nodeAt}
-use Rattle.plain.specs.declared.Task.{Task}
-use Rattle.plain.specs.declared.Task.the-variants.{Make, Give, Go, Both, Then}
+use Rattle.applying.specs.declared.Task.{Task}
+use Rattle.applying.specs.declared.Task.the-variants.{Make, Give, Go, Both, Then}
 
 -- by the node f, the first child of f, the node x, and x
 unfoldable pub rules : Node → Node → Node → Slot → Task

@@ -2,9 +2,9 @@
 use native.Mathlib.Omega.{arith}
 use borrow.Author.Needs.{needs}
 use Rattle.table.proofs.SlotLaws.{room-most}
-use Rattle.plain.proofs.Ways.{make-room, make-full}
-use Rattle.plain.proofs.make.Statement.{statement}
-use Rattle.plain.proofs.make.Tie as tie
+use Rattle.applying.proofs.Ways.{make-room, make-full}
+use Rattle.applying.proofs.make.Statement.{statement}
+use Rattle.applying.proofs.make.Tie as tie
 
 room-requires : tie.Need-room-requires
 room-requires c κs = search needs
