@@ -23,7 +23,7 @@ use Rattle.soundness.proofs.FileFormat.{readHeader, readDirectory, one-
 use Rattle.soundness.proofs.Decides.{dec-same, dec-both, dec-where, not-both-so, not-within, not-where, not-each, row-exactly}
 use Rattle.soundness.proofs.Directory.{Directory, magic-fine, major-fine, directory-fine, Optional, Plain, Inside, Digested, All, dec-known, optional-fine, plain-fine, inside-fine, digest-fine, again-fine, there-fine}
 use Rattle.soundness.proofs.Mirror.{again-mirrored, there-mirrored}
-use Rattle.soundness.proofs.Smallest.{Means}
+use Rattle.soundness.proofs.Smallest.{Means, _else_}
 
 -- ---- 1 to 5
 
@@ -82,15 +82,14 @@ module _ (file : List ℕ) where
 
   pub header-means : Means (Applies file) (headerChecks file)
   unfolding headerChecks
-  header-means = (
-    row-1,
-    λ _. (
-      row-2,
-      λ e.
-          let long = least-exactly file .0 e in
-          (row-3 long, λ _. (row-4 long, λ _. (row-5 long, λ _. tt))),
-    ),
-  )
+  header-means =
+      row-1 else λ _.
+      row-2 else λ e.
+      let long = least-exactly file .0 e in
+      row-3 long else λ _.
+      row-4 long else λ _.
+      row-5 long else λ _.
+      tt
 
   pub header-directory : Clear (headerChecks file) → HasDirectory (readHeader file) (readDirectory file) file
   unfolding headerChecks rowHolds
@@ -192,20 +191,11 @@ module _ (file : List ℕ) where
 
     pub directory-means : Means (Applies file) (directoryChecks file)
     unfolding directoryChecks
-    directory-means = (
-      row-6,
-      λ _. (
-        row-7,
-        λ _. (
-          row-8,
-          λ e. (
-            row-9,
-            λ _. (
-              row-10,
-              λ _.
-                  (row-11 (inside-fine file .0 e), λ _. tt),
-            ),
-          ),
-        ),
-      ),
-    )
+    directory-means =
+        row-6 else λ _.
+        row-7 else λ _.
+        row-8 else λ e.
+        row-9 else λ _.
+        row-10 else λ _.
+        row-11 (inside-fine file .0 e) else λ _.
+        tt

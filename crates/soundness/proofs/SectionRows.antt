@@ -36,7 +36,7 @@ use Rattle.soundness.proofs.NodesMeaning.{distinct-exactly, closed-exac
 use Rattle.soundness.proofs.References.{resolved-exactly}
 use Rattle.soundness.proofs.Decides.{dec-same, dec-among, dec-both, not-within, not-each, dec-each, row-exactly}
 use Rattle.soundness.proofs.NodesHashes.{payload-children, node-payload}
-use Rattle.soundness.proofs.Smallest.{Means}
+use Rattle.soundness.proofs.Smallest.{Means, _else_}
 
 -- ---- 12 to 14
 
@@ -133,7 +133,11 @@ module _ (file m : List ℕ) (is : SectionOf file 1 m) (only : (s : List ℕ) �
   pub manifest-means : Means (Applies file) (manifestChecks m)
   unfolding manifestChecks
   manifest-means =
-      (row-12, λ e. let (c, i) = shaped-exactly m .0 e in (row-13 c i, λ _. (row-14 c i, λ _. tt)))
+      row-12 else λ e.
+      let (c, i) = shaped-exactly m .0 e in
+      row-13 c i else λ _.
+      row-14 c i else λ _.
+      tt
 
 -- ---- 15 to 20
 
@@ -234,21 +238,15 @@ module _ (file s : List ℕ) (is : SectionOf file 2 s) (only : (t : List ℕ) �
       (single : (d : Contents) → HasManifest file d → d ≡ c) where
     pub nodes-means : Means (Applies file) (nodeChecks m s)
     unfolding nodeChecks
-    nodes-means = (
-      row-15,
-      λ e.
-          let (rs, i) = nodes-exactly s .0 (not-false _ e) in
-          let q = reads-nodes s rs i in (
-            rw q (row-16 rs i),
-            λ _. (
-              rw q (row-17 rs i),
-              λ twice. (
-                rw q (row-18 rs i),
-                λ there.
-                    let d = distinct-exactly rs .0 (rw q at twice) in
-                    let f = closed-exactly s rs i .0 (rw q at there) in
-                    (rw q (row-19 rs i d f), λ _. (row-20 rs i m c j has single, λ _. tt)),
-              ),
-            ),
-          ),
-    )
+    nodes-means =
+        row-15 else λ e.
+        let (rs, i) = nodes-exactly s .0 (not-false _ e) in
+        let q = reads-nodes s rs i in
+        rw q (row-16 rs i) else λ _.
+        rw q (row-17 rs i) else λ twice.
+        rw q (row-18 rs i) else λ there.
+        let d = distinct-exactly rs .0 (rw q at twice) in
+        let f = closed-exactly s rs i .0 (rw q at there) in
+        rw q (row-19 rs i d f) else λ _.
+        row-20 rs i m c j has single else λ _.
+        tt

@@ -19,6 +19,11 @@ abbrev pub Means : (ℕ → Type 0) → List Row → Type 0
 Means A [] = Unit {0}
 Means A (c ∷ cs) = ((c .holds ≡ true) ↔ A (c .number)) × (c .holds ≡ false → Means A cs)
 
+-- what a row means, and what the rows after it mean where it does not hold
+infixr 5 _else_
+abbrev pub _else_ : {A B : Type 0} → A → B → A × B
+a else b = (a, b)
+
 -- where two things apply alike, the smallest number is the same
 smallest-to : {A B : ℕ → Type 0} {n : ℕ} → ((m : ℕ) → A m ↔ B m) → Smallest A n → Smallest B n
 smallest-to {n = n} f s = record { applies = f n .0 (s .applies); smallest = λ m l x. s .smallest m l (f m .1 x) }
