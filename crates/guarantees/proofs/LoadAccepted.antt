@@ -25,7 +25,7 @@ use Rattle.soundness.proofs.ManifestMeaning.{reads-exports}
 use Rattle.soundness.proofs.NodesMeaning.{reads-nodes}
 use Rattle.soundness.proofs.File.{false-of, clear-sound, sound-clear}
 use Rattle.soundness.proofs.Sections.{described-manifest, sound-nodes, one-nodes, one-exports}
-use Rattle.soundness.proofs.Smallest.{Means, means-parts, means-map, Consecutive, first-exactly}
+use Rattle.soundness.proofs.Smallest.{Means, _else_, means-parts, means-map, Consecutive, first-exactly}
 use Rattle.soundness.proofs.Applies.{bounds, all-means}
 use Rattle.loader.specs.declared.LoadAnswer.the-variants.{Refused}
 use Rattle.loader.specs.Answer.{loadNumbers}
@@ -155,7 +155,7 @@ module _ (file w : List ℕ) (base : ℤ) (out : List ℕ) where
   unfolding loadChecks
   load-means =
       means-parts A (checks file) _ file-means
-      (λ h. let sound = clear-sound file h in (row-21 sound, λ _. (row-22 sound, λ _. tt)))
+      (λ h. let sound = clear-sound file h in row-21 sound else λ _. row-22 sound else λ _. tt)
 
   load-ascends : Ascends 0 (loadChecks file w base out)
   unfolding loadChecks checks nameChecks containerChecks headerChecks directoryChecks manifestChecks nodeChecks
