@@ -9,7 +9,7 @@
 To believe are the demands' statements (the records `Demand..`), and whatever a definition to believe names. It stops at the calls' own
 definitions: the theorems say what these do, the contracts that the code equals them; and at definitions that a field of the demands
 determines. Types that are declared in code are named only, and the kit's library is not followed. A second list has what the closing
-records name beyond that: nobody has to believe it. Who calls from C reads crates/arboricx too.
+records name beyond that: nobody has to believe it. Who calls from C reads crates/answers too.
 
 Then the same is asked of pages and definitions that are wrong, each in one way; the test fails if one of them passes.
 """
@@ -49,7 +49,7 @@ class Closure:
         records = [i for m in specs.order for i in m.items.values() if i.kind == "pub record"]
         read = self.reached([i for i in records if i.name.startswith("Demand")])
         more = self.reached([i for i in records if i.module.path == CLOSING]) - read
-        for_c = self.reached([i for m in specs.order if m.crate == "arboricx" for i in m.items.values()]) - read - more
+        for_c = self.reached([i for m in specs.order if m.crate == "answers" for i in m.items.values()]) - read - more
         known = read | more | for_c
         self.declared = sorted(i for i in known if isinstance(i, str))
         self.calls = [c for c in self.calls if c in known]
@@ -242,7 +242,7 @@ def wrong(text, texts):
         yield f"a demand that {label}", text, {DEMANDS: f"use {path}{use}\n{demands}{record}{new}\n"}, f"{file} "
     new = f"use {path}.{{{name} as more}}\n{texts[CLOSING]}" + record.replace("Demand0", "Closing0") + "more\n"
     yield "a closing record that names a definition more", text, {CLOSING: new}, f"{file} "
-    answers = "crates/arboricx/specs/Answers.antt"
+    answers = "crates/answers/specs/Words.antt"
     new = f"use {path}.{{{name} as more}}\n{texts[answers]}\nabbrev pub other : Type 0\nother = more\n"
     yield "a definition for C that names one more", text, {answers: new}, "another order or form"
     yield "a field that determines a definition is gone", text, {DEMANDS: demands.replace("pub room-is :", "pub room :")}, "is to determine"

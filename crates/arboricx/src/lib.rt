@@ -4,20 +4,16 @@ ghost use Rattle.sha256_block.specs.Fips180.{sha256};
 ghost use Rattle.bundle.specs.Checks.{refusal};
 ghost use Rattle.bundle.specs.Exports.{namePart, indexCall};
 ghost use Rattle.loader.specs.Load.{load};
-ghost use Rattle.engine.specs.Answer.{runNumbers};
-ghost use Rattle.engine.specs.Named.{RunSlotsUsed};
 ghost use Rattle.engine.specs.Run.{runFrom};
 ghost use Rattle.engine.specs.declared.From.the-variants.{Scratch, Stop};
-ghost use Rattle.plain.specs.Answer as plain;
-ghost use Rattle.plain.specs.Named as plainly;
 ghost use Rattle.plain.specs.Run.{plainRun};
-ghost use Rattle.arboricx.specs.Answers.{runWords, plainWords, partWords};
-ghost use Rattle.arboricx.specs.Calls.{left, afterLoad, afterRun, leftOne, afterPlain, told, afterIndex};
-use bundle::exports::IndexAnswer;
+ghost use Rattle.answers.specs.Words.{partWords};
+ghost use Rattle.answers.specs.Calls.{left, afterLoad, afterRun, leftOne, afterPlain, told, afterIndex};
+use answers::put_index;
+use answers::put_load;
+use answers::put_plain;
+use answers::put_run;
 use engine::From;
-use engine::RunAnswer;
-use loader::LoadAnswer;
-use plain::PlainAnswer;
 
 // 1 to 20: the number of the first check that holds, or 0 for a sound bundle.
 #[no_mangle]
@@ -39,44 +35,8 @@ pub extern "C" fn arboricx_load(
     ensures { λ r. ⌜ left (now (words .exit)) (now (exports .exit)) (now (answer .exit)) r
         ≡ afterLoad (load (now (file .entry)) (now (words .entry)) base (now (exports .entry))) ⌝ }
 {
-    match loader::load(file, words, base, exports) {
-        LoadAnswer::Refused(number) => {
-            *answer = [number, 0, 0];
-            number
-        }
-        LoadAnswer::Accepted { nodes, exports } => {
-            *answer = [0, nodes, exports];
-            0
-        }
-    }
-}
-
-// Writes the words of a run's answer. Returns its number.
-fn put_run(answer: &mut [u32; 6], a: RunAnswer) -> u32
-    requires { ⌜ RunSlotsUsed a ⌝ }
-    ensures { λ r. ⌜ (now (answer .exit) ≡ runWords a) × (r ≡ runNumbers a .number) ⌝ }
-{
-    match a {
-        RunAnswer::Refused(number) => {
-            *answer = [number, 0, 0, 0, 0, 0];
-            number
-        }
-        RunAnswer::Done { slot, steps, used } => {
-            *answer = [0, slot as u32, 0, steps, used, 0];
-            0
-        }
-        RunAnswer::Stopped {
-            number,
-            f,
-            x,
-            steps,
-            used,
-            waiting,
-        } => {
-            *answer = [number, f as u32, x as u32, steps, used, waiting];
-            number
-        }
-    }
+    let a = loader::load(file, words, base, exports);
+    put_load(answer, a)
 }
 
 // Runs from scratch or from a stop, and writes the words of the answer. The tables come first, so that they are passed in registers.
@@ -137,31 +97,6 @@ pub extern "C" fn arboricx_carry_on(
     run_words(words, jobs, answer, from, base, f, x, used, fuel)
 }
 
-// Writes the words of a plain run's answer. Returns its number.
-fn put_plain(answer: &mut [u32; 4], a: PlainAnswer) -> u32
-    requires { ⌜ plainly.PlainSlotUsed a ⌝ }
-    ensures { λ r. ⌜ (now (answer .exit) ≡ plainWords a) × (r ≡ plain.plainNumbers a .number) ⌝ }
-{
-    match a {
-        PlainAnswer::Refused(number) => {
-            *answer = [number, 0, 0, 0];
-            number
-        }
-        PlainAnswer::Done { slot, steps, used } => {
-            *answer = [0, slot as u32, steps, used];
-            0
-        }
-        PlainAnswer::Stopped {
-            number,
-            steps,
-            used,
-        } => {
-            *answer = [number, 0, steps, used];
-            number
-        }
-    }
-}
-
 // Applies slot f to slot x on the plain engine, with room for so many jobs. The answer: number; result slot; steps; used count.
 #[no_mangle]
 pub extern "C" fn arboricx_plain_run(
@@ -186,16 +121,8 @@ pub extern "C" fn arboricx_plain_run(
 pub extern "C" fn arboricx_export_index(file: &[u8], name: &[u8], answer: &mut [u32; 2]) -> u32
     ensures { λ r. ⌜ told (now (answer .exit)) r ≡ afterIndex (indexCall (now (file .entry)) (now (name .entry))) ⌝ }
 {
-    match bundle::exports::export_index(file, name) {
-        IndexAnswer::Refused(number) => {
-            *answer = [number, 0];
-            number
-        }
-        IndexAnswer::Index(index) => {
-            *answer = [0, index as u32];
-            0
-        }
-    }
+    let a = bundle::exports::export_index(file, name);
+    put_index(answer, a)
 }
 
 // The part of the file that is an export's name. The answer: start, length; (0, 0) for the empty part.

@@ -1,6 +1,6 @@
 -- The two words of the part.
 use mathlib.Core.Path.{ap}
-use Rattle.arboricx.specs.Answers.{partWords}
+use Rattle.answers.specs.Words.{partWords}
 use borrow.Author.Needs.{needs}
 use Rattle.arboricx.proofs.arboricx_export_name.Statement.{statement}
 use Rattle.arboricx.proofs.arboricx_export_name.Tie as tie

@@ -1,7 +1,8 @@
 -- What the plain run leaves, and the words of its answer.
 use borrow.Author.Needs.{needs}
 use Rattle.table.proofs.Signed.{as-passed}
-use Rattle.arboricx.proofs.Answers.{plain-left, plain-named}
+use Rattle.answers.proofs.Answers.{plain-left}
+use Rattle.arboricx.proofs.Named.{plain-named}
 use Rattle.arboricx.proofs.arboricx_plain_run.Statement.{statement}
 use Rattle.arboricx.proofs.arboricx_plain_run.Tie as tie
 

@@ -1,7 +1,8 @@
 -- What the run leaves, and the words of its answer.
 use borrow.Author.Needs.{needs}
 use Rattle.table.proofs.Signed.{as-passed}
-use Rattle.arboricx.proofs.Answers.{run-left, run-named}
+use Rattle.answers.proofs.Answers.{run-left}
+use Rattle.arboricx.proofs.Named.{run-named}
 use Rattle.arboricx.proofs.run_words.Statement.{statement}
 use Rattle.arboricx.proofs.run_words.Tie as tie
 

@@ -10,7 +10,7 @@ use mir.Val.{Fits, SFits, toZ, ofZ}
 use Rattle.table.specs.Limits.{maxSlots}
 use Rattle.table.proofs.Signed.{as-passed}
 use Rattle.engine.specs.Named.{UsedSlot}
-use Rattle.arboricx.specs.Answers.{slotWord}
+use Rattle.answers.specs.Words.{slotWord}
 
 module _ {used : ℕ} {z : ℤ} (most : used ≤ maxSlots) (among : UsedSlot used z) where
   fits : SFits w32 z

@@ -13,8 +13,8 @@ use Rattle.plain.specs.declared.PlainAnswer.{PlainAnswer}
 use Rattle.plain.specs.declared.PlainAnswer.the-variants.{Refused, Done, Stopped}
 use Rattle.plain.specs.Answer as plain
 use Rattle.plain.specs.Run.{played}
-use Rattle.arboricx.specs.Answers.{slotWord, partWords}
-use Rattle.arboricx.specs.Calls.{left, afterLoad, afterRun, leftOne, afterPlain, told, afterIndex}
+use Rattle.answers.specs.Words.{slotWord, partWords}
+use Rattle.answers.specs.Calls.{left, afterLoad, afterRun, leftOne, afterPlain, told, afterIndex}
 
 -- Of a load: both tables as it leaves them; a refusal's number and zeros, or 0, the node count and the export count; the number.
 abbrev pub LoadWordsAre : Type 0

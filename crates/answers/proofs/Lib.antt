@@ -1,3 +1,3 @@
+pub mod Slots
 pub mod Answers
-pub mod Calls
 pub mod Meaning

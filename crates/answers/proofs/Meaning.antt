@@ -11,9 +11,9 @@ use Rattle.plain.specs.declared.PlainAnswer.the-variants as plain
 use Rattle.plain.specs.Answer as plainly
 use Rattle.plain.specs.Run.{played}
 use Rattle.engine.specs.Run.{ran}
-use Rattle.arboricx.specs.Answers.{slotWord}
-use Rattle.arboricx.specs.Calls.{left, afterRun, leftOne, afterPlain}
-use Rattle.arboricx.specs.Meaning.{LoadWordsAre, RunWordsAre, PlainWordsAre, IndexWordsAre, PartWordsAre}
+use Rattle.answers.specs.Words.{slotWord}
+use Rattle.answers.specs.Calls.{left, afterRun, leftOne, afterPlain}
+use Rattle.answers.specs.Meaning.{LoadWordsAre, RunWordsAre, PlainWordsAre, IndexWordsAre, PartWordsAre}
 
 pub load-words-are : LoadWordsAre
 load-words-are w e = (λ n. refl, λ nodes exports. refl)

@@ -2,9 +2,9 @@
 use mathlib.Core.Path.{refl, subst}
 use borrow.Author.Needs.{needs}
 use Rattle.engine.specs.Named.{RunSlotsUsed}
-use Rattle.arboricx.proofs.Slots.{slot-cast, slot-word}
-use Rattle.arboricx.proofs.put_run.Statement.{statement}
-use Rattle.arboricx.proofs.put_run.Tie as tie
+use Rattle.answers.proofs.Slots.{slot-cast, slot-word}
+use Rattle.answers.proofs.put_run.Statement.{statement}
+use Rattle.answers.proofs.put_run.Tie as tie
 
 enum-known-a : tie.Need-enum-known-a
 enum-known-a c = search needs

@@ -9,7 +9,7 @@ use Rattle.plain.specs.Run.{Played, played}
 use Rattle.plain.specs.Answer as plain
 use Rattle.bundle.specs.declared.exports.IndexAnswer.{IndexAnswer}
 use Rattle.bundle.specs.Exports as exports
-use Rattle.arboricx.specs.Answers.{loadWords, runWords, plainWords, indexWords}
+use Rattle.answers.specs.Words.{loadWords, runWords, plainWords, indexWords}
 
 -- two lent tables, the answer's words, the number returned
 pub data Left : Type 0 where
