@@ -28,7 +28,8 @@ use Rattle.unpacking.specs.Written.{recordSlot, slotNamed, recordNode, written,
 use Rattle.loader.specs.Load.{recordsIn, exportsIn, unfit, crowded, Loaded, loaded, loadedWith, exportsWritten, accept, acceptFrom, load}
 use Rattle.loader.proofs.Refusals.{past-bundle}
 use Rattle.text.specs.Text.{digits, newline}
-use Rattle.listing.specs.Listing.{line, lines, okLine, report, listing}
+use Rattle.report.specs.Report.{line, lines, okLine, report}
+use Rattle.listing.specs.Listing.{listing}
 use Rattle.bundle_example.specs.Leaf.{leafBundle, leafHash}
 use Rattle.bundle_example.specs.Cases as changed
 use Rattle.bundle_example.specs.Loads.{LoadCase, seenOf, loadCases, LoadsHold, Writes}

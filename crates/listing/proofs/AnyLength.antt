@@ -13,7 +13,8 @@ use Rattle.bundle.specs.Checks.{nameChecks, checks}
 use Rattle.refusals.specs.Refusals.{answer}
 use Rattle.container.specs.Checks.{headerChecks, containerChecks}
 use Rattle.loader.specs.Load.{loadChecks, loadRefusal, load}
-use Rattle.listing.specs.Listing.{refusedLine, report, listing, AnyLength}
+use Rattle.report.specs.Report.{refusedLine, report}
+use Rattle.listing.specs.Listing.{listing, AnyLength}
 
 pub too-long : (input : List ℕ) → fileSize .most < length input → listing input ≡ refusedLine 1
 unfolding listing report load loadRefusal loadChecks checks nameChecks containerChecks headerChecks answer tooLong

@@ -6,7 +6,7 @@ use Rattle.wire.specs.Wire.{ascii}
 use Rattle.loader.specs.declared.LoadAnswer.the-variants.{Refused, Accepted}
 use Rattle.loader.specs.Load.{loaded}
 use Rattle.text.specs.Text.{digits, newline}
-use Rattle.listing.specs.Listing.{line, lines, refusedLine, okLine, report}
+use Rattle.report.specs.Report.{line, lines, refusedLine, okLine, report}
 
 -- a bundle of one leaf, exported as `main`
 pub one-leaf : (words slots : List ℕ) →

@@ -1,6 +1,3 @@
-pub mod Lines
-pub mod Exports
-pub mod ExportLines
 pub mod Loads
 pub mod Examples
 pub mod AnyLength

@@ -19,8 +19,9 @@ use Rattle.loader.specs.declared.LoadAnswer.{LoadAnswer}
 use Rattle.loader.specs.declared.LoadAnswer.the-variants.{Refused, Accepted}
 use Rattle.loader.specs.Load.{exportsIn, loadRefusal, Loaded, loaded, accept, acceptFrom, load}
 use Rattle.loader.proofs.Refusals.{bundle-clear}
-use Rattle.listing.specs.Listing.{lines, refusedLine, okLine, report, listing}
-use Rattle.listing.specs.Writing.{Exported}
+use Rattle.report.specs.Report.{lines, refusedLine, okLine, report}
+use Rattle.report.specs.Writing.{Exported}
+use Rattle.listing.specs.Listing.{listing}
 
 -- the tables that the program lends, the load that it makes, and the number that is answered
 abbrev nodeTable : List ℕ

@@ -3,11 +3,9 @@ ghost use mathlib.Core.Path.{_≡_};
 ghost use Prim.Native.Nat.{_≤_};
 ghost use lib.ListN.{length, take, drop};
 ghost use Rattle.listing.specs.Listing.{listing};
-use crate::report::put_accepted;
-use crate::report::put_refused;
 use loader::LoadAnswer;
-
-mod report;
+use report::put_accepted;
+use report::put_refused;
 
 // The words of a table with room for the nodes of any bundle, and of one for the slots of its exports.
 const NODE_WORDS: usize = 1024;

@@ -2,7 +2,7 @@
 use native.Mathlib.Omega.{arith}
 use borrow.Author.Needs.{needs}
 use Rattle.text.proofs.Putting.{at-start}
-use Rattle.listing.proofs.Lines.{refused-fits}
+use Rattle.report.proofs.Lines.{refused-fits}
 use Rattle.listing.proofs.Loads.{listing-refused, listing-accepted, accepted-exported}
 use Rattle.listing.proofs.list.Statement.{statement}
 use Rattle.listing.proofs.list.Tie as tie

@@ -8,10 +8,10 @@ use Rattle.manifest.specs.Content.{names}
 use Rattle.loader.specs.Load.{exportsIn}
 use Rattle.text.specs.Put.{Put}
 use Rattle.text.proofs.Putting.{put-none}
-use Rattle.listing.specs.Listing.{lines}
-use Rattle.listing.proofs.ExportLines.{line-fits, line-put}
-use Rattle.listing.proofs.report.put_lines.Statement.{statement}
-use Rattle.listing.proofs.report.put_lines.Tie as tie
+use Rattle.report.specs.Report.{lines}
+use Rattle.report.proofs.ExportLines.{line-fits, line-put}
+use Rattle.report.proofs.put_lines.Statement.{statement}
+use Rattle.report.proofs.put_lines.Tie as tie
 
 abbrev Inv-loop : tie.InvT-loop
 Inv-loop input c slots count out₀ at p₀ i₀ out p i =

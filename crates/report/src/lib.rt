@@ -8,9 +8,9 @@ ghost use Rattle.manifest.specs.Content.{names};
 ghost use Rattle.bundle.specs.declared.Verdict.the-variants.{Passed};
 ghost use Rattle.bundle.specs.Verdict.{described};
 ghost use Rattle.loader.specs.Load.{exportsIn};
-ghost use Rattle.listing.specs.Listing.{line, lines, refusedLine, okLine};
+ghost use Rattle.report.specs.Report.{line, lines, refusedLine, okLine};
 ghost use Rattle.text.specs.Put.{Put};
-ghost use Rattle.listing.specs.Writing.{Exported, textBytes};
+ghost use Rattle.report.specs.Writing.{Exported, textBytes};
 use bundle::Outline;
 use bundle::Verdict;
 use bundle::describe;
@@ -69,13 +69,7 @@ fn put_ok(out: &mut [u8], nodes: u32, exports: u32) -> usize
 }
 
 // Puts what is written of an accepted bundle. One check finds the names of all exports; it refuses no accepted bundle.
-pub(crate) fn put_accepted(
-    input: &[u8],
-    nodes: u32,
-    slots: &[u32],
-    exports: u32,
-    out: &mut [u8],
-) -> usize
+pub fn put_accepted(input: &[u8], nodes: u32, slots: &[u32], exports: u32, out: &mut [u8]) -> usize
     requires { ⌜ (Exported (now input) (now slots) exports) × (textBytes ≤ length (now out)) ⌝ }
     ensures { λ r. ⌜ Put
         (okLine nodes exports ++ lines (take exports (now (slots .entry))) (names (exportsIn (now (input .entry)))))
@@ -89,7 +83,7 @@ pub(crate) fn put_accepted(
 }
 
 // Puts the number of a refusal.
-pub(crate) fn put_refused(out: &mut [u8], number: u32) -> usize
+pub fn put_refused(out: &mut [u8], number: u32) -> usize
     requires { ⌜ length (refusedLine number) ≤ length (now out) ⌝ }
     ensures { λ r. ⌜ Put (refusedLine number) (now (out .entry)) 0 (now (out .exit)) r ⌝ }
 {

@@ -1,11 +1,11 @@
 -- The parts of the line, one after the other.
 use native.Mathlib.Omega.{arith}
 use borrow.Author.Needs.{needs}
-use Rattle.listing.specs.Listing.{okLine}
+use Rattle.report.specs.Report.{okLine}
 use Rattle.text.proofs.Putting.{then}
-use Rattle.listing.proofs.Lines.{ok-length}
-use Rattle.listing.proofs.report.put_ok.Statement.{statement}
-use Rattle.listing.proofs.report.put_ok.Tie as tie
+use Rattle.report.proofs.Lines.{ok-length}
+use Rattle.report.proofs.put_ok.Statement.{statement}
+use Rattle.report.proofs.put_ok.Tie as tie
 
 slice-aggregate-put-bytes : tie.Need-slice-aggregate-put-bytes
 slice-aggregate-put-bytes c = search needs

@@ -1,11 +1,11 @@
 -- The parts of the line, one after the other.
 use native.Mathlib.Omega.{arith}
 use borrow.Author.Needs.{needs}
-use Rattle.listing.specs.Listing.{line}
+use Rattle.report.specs.Report.{line}
 use Rattle.text.proofs.Putting.{then}
-use Rattle.listing.proofs.Lines.{line-length}
-use Rattle.listing.proofs.report.put_line.Statement.{statement}
-use Rattle.listing.proofs.report.put_line.Tie as tie
+use Rattle.report.proofs.Lines.{line-length}
+use Rattle.report.proofs.put_line.Statement.{statement}
+use Rattle.report.proofs.put_line.Tie as tie
 
 cast-size : tie.Need-cast-size
 cast-size c = search needs

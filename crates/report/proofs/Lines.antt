@@ -7,7 +7,7 @@ use native.Mathlib.Omega.{arith}
 use lib.ListN.{length, take, getD, length-append}
 use Rattle.sizes.specs.Sizes.{nameSize}
 use Rattle.text.specs.Text.{decimal}
-use Rattle.listing.specs.Listing.{line, lines, refusedLine, okLine}
+use Rattle.report.specs.Report.{line, lines, refusedLine, okLine}
 use Rattle.text.proofs.Decimal.{digits-most}
 
 pub line-length : (slot : ℕ) (name : List ℕ) →

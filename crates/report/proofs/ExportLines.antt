@@ -19,12 +19,12 @@ use Rattle.bundle.specs.Exports.{nameAt}
 use Rattle.bundle.proofs.Stages.{names-of-all}
 use Rattle.bundle.proofs.Verdicts.{described-refused}
 use Rattle.loader.specs.Load.{exportsIn}
-use Rattle.listing.specs.Listing.{line, lines, okLine}
-use Rattle.listing.specs.Writing.{Exported, textBytes}
+use Rattle.report.specs.Report.{line, lines, okLine}
+use Rattle.report.specs.Writing.{Exported, textBytes}
 use Rattle.text.specs.Put.{Put}
 use Rattle.text.proofs.Putting.{then}
-use Rattle.listing.proofs.Lines.{lines-more, lines-within, lines-most, ok-most}
-use Rattle.listing.proofs.Exports.{short-names, name-at}
+use Rattle.report.proofs.Lines.{lines-more, lines-within, lines-most, ok-most}
+use Rattle.report.proofs.Exports.{short-names, name-at}
 
 -- export i; p and name stand for the part that is its name and for its bytes, as the calls answered them
 module _ {file slots : List ℕ} {count : ℕ} (x : Exported file slots count) {i : ℕ} (h : i < count) {p : Part}

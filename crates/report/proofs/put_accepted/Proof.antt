@@ -3,9 +3,9 @@ use mathlib.Core.Path.{sym, _∙_}
 use native.Mathlib.Omega.{arith}
 use borrow.Author.Needs.{needs}
 use Rattle.text.proofs.Putting.{then}
-use Rattle.listing.proofs.ExportLines.{undescribed, accepted-fits}
-use Rattle.listing.proofs.report.put_accepted.Statement.{statement}
-use Rattle.listing.proofs.report.put_accepted.Tie as tie
+use Rattle.report.proofs.ExportLines.{undescribed, accepted-fits}
+use Rattle.report.proofs.put_accepted.Statement.{statement}
+use Rattle.report.proofs.put_accepted.Tie as tie
 
 put-ok-requires : tie.Need-put-ok-requires
 put-ok-requires c κs =

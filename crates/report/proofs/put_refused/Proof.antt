@@ -1,11 +1,11 @@
 -- The parts of the line, one after the other.
 use native.Mathlib.Omega.{arith}
 use borrow.Author.Needs.{needs}
-use Rattle.listing.specs.Listing.{refusedLine}
+use Rattle.report.specs.Report.{refusedLine}
 use Rattle.text.proofs.Putting.{then}
-use Rattle.listing.proofs.Lines.{refused-length}
-use Rattle.listing.proofs.report.put_refused.Statement.{statement}
-use Rattle.listing.proofs.report.put_refused.Tie as tie
+use Rattle.report.proofs.Lines.{refused-length}
+use Rattle.report.proofs.put_refused.Statement.{statement}
+use Rattle.report.proofs.put_refused.Tie as tie
 
 slice-aggregate-put-bytes : tie.Need-slice-aggregate-put-bytes
 slice-aggregate-put-bytes c = search needs
