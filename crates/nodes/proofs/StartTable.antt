@@ -6,12 +6,13 @@ use mathlib.Core.List.{List, [], _∷_, _++_}
 use native.Mathlib.Nat.{sub-zero}
 use native.Mathlib.Numerals.{add-one}
 use native.Mathlib.Omega.{arith}
-use lib.ListN.{length, take, drop, getD, length-take}
+use lib.ListN.{length, take, drop, getD, replicate, length-take, length-replicate}
 use lib.Seq.{drop-cons, getD-take, take-at}
 use Rattle.wire.specs.Wire.{span, onPos}
 use Rattle.wire.specs.declared.Pos.{Pos}
 use Rattle.wire.specs.declared.Pos.the-variants.{At, Past}
 use Rattle.nodes.specs.Records.{NodeRecord, recordEnd, recordAt, records, count, shaped}
+use Rattle.nodes.specs.Links.{Sized}
 use Rattle.nodes.specs.Starts.{starts, Starts, nthRecord}
 use Rattle.nodes.proofs.Walks.{record-in, records-on, records-past}
 use Rattle.nodes.proofs.Placing.{shaped-sized}
@@ -68,6 +69,12 @@ module _ (s : List ℕ) where
 -- n stands for the count, as the call answered it
 pub starts-counted : {s table : List ℕ} {n : ℕ} → n ≡ count s → Starts s (count s) table → Starts s n table
 starts-counted e t = rw e t
+
+-- a table of 512 words has a place for the start of each record
+pub room-for-starts : (s : List ℕ) {n : ℕ} → n ≡ count s → shaped s ≡ true → Sized s n × (n ≤ length (replicate {A = ℕ} 512 0))
+room-for-starts s e h =
+    let size = shaped-sized s e h in
+    (size, omega (arith, size .few, length-replicate {A = ℕ} 512 0))
 
 -- the table that was filled in, of a section that has the shape
 pub starts-filled : (s : List ℕ) {n : ℕ} → n ≡ count s → shaped s ≡ true → (out old : List ℕ) →

@@ -3,9 +3,9 @@ use borrow.Author.Needs.{needs}
 use native.Mathlib.Omega.{arith}
 use Rattle.refusals.specs.Refusals.{rowsBefore, rowHolds}
 use Rattle.refusals.proofs.Rows.{told-not-false, refuse}
-use Rattle.nodes.proofs.StartTable.{starts-filled}
+use Rattle.nodes.proofs.StartTable.{room-for-starts, starts-filled}
 use Rattle.bundle.specs.Checks.{nodeChecks}
-use Rattle.bundle.proofs.NodeRows.{room-for-starts, nodeRows}
+use Rattle.bundle.proofs.NodeRows.{nodeRows}
 use Rattle.bundle.proofs.check_nodes.Statement.{statement}
 use Rattle.bundle.proofs.check_nodes.Tie as tie
 
