@@ -3,6 +3,7 @@ pub mod DoneStays
 pub mod FuelCuts
 pub mod Stops
 pub mod StepsSpent
+pub mod AllowanceBounds
 pub mod Costs
 pub mod DoneByCost
 pub mod DoneExactly

@@ -25,6 +25,7 @@ pub mod OneLoad
 pub mod OnlyLoad
 pub mod Begins
 pub mod RunZero
+pub mod RoomSuffices
 pub mod JobsSound
 pub mod FuelInParts
 pub mod StopsCarryOn

@@ -189,3 +189,19 @@ DoneStays =
     → (v′ : List ℕ) × (k′ : List ℕ)
     × (runFrom from (before′ ++ w′) (pos (length before′)) f x used fuel′ j′ ≡ ran (before′ ++ v′) k′ a)
     × SameSlots (runNumbers a .used) v v′
+
+-- ---- how large the tables have to be
+
+-- the jobs that wait before it
+abbrev pub waitingBefore : From → ℕ
+waitingBefore Scratch = 0
+waitingBefore (Stop waiting steps) = waiting
+
+-- A run stops with 32 only where the used slots and the fuel are more than the room, and with 33 only where the jobs that wait and the
+-- fuel are more than the job room. So a slot and a place for each step of the allowance are enough.
+abbrev pub RoomSuffices : Type 0
+RoomSuffices =
+    (from : From) (w v j k : List ℕ) (b : ℕ) (f x : ℤ) (used fuel : ℕ) (a : RunAnswer)
+    → runFrom from w (pos b) f x used fuel j ≡ ran v k a
+    → (runNumbers a .number ≡ 32 → room (drop b w) < used + fuel)
+    × (runNumbers a .number ≡ 33 → frameRoom j < waitingBefore from + fuel)
