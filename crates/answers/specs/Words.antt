@@ -1,4 +1,4 @@
--- The words that C gets of each answer, in the order of include/arboricx.h.
+-- The words that C gets of each answer, in the order of include/arboricx.h; and the version that these calls are of.
 use Prim.Native.Nat.{ℕ, suc, _-_, _^_}
 use mathlib.Core.List.{List, [], _∷_}
 use lib.IntN.{ℤ, pos, negsuc}
@@ -11,6 +11,10 @@ use Rattle.plain.specs.declared.PlainAnswer.the-variants as plain
 use Rattle.bundle.specs.declared.exports.IndexAnswer.{IndexAnswer}
 use Rattle.wire.specs.declared.Part.{Part}
 use Rattle.bundle.specs.Exports as exports
+
+-- major, minor and patch, two digits each: this is 1.0.0
+abbrev pub version : ℕ
+version = 10000
 
 -- number, node count, export count
 abbrev pub loadWords : LoadAnswer → List ℕ

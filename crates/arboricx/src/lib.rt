@@ -7,13 +7,21 @@ ghost use Rattle.loader.specs.Load.{load};
 ghost use Rattle.engine.specs.Run.{runFrom};
 ghost use Rattle.engine.specs.declared.From.the-variants.{Scratch, Stop};
 ghost use Rattle.plain.specs.Run.{plainRun};
-ghost use Rattle.answers.specs.Words.{partWords};
+ghost use Rattle.answers.specs.Words.{partWords, version};
 ghost use Rattle.answers.specs.Calls.{left, afterLoad, afterRun, leftOne, afterPlain, told, afterIndex};
 use answers::put_index;
 use answers::put_load;
 use answers::put_plain;
 use answers::put_run;
 use engine::From;
+
+// The version of the archive, ARBORICX_VERSION of the header.
+#[no_mangle]
+pub extern "C" fn arboricx_version() -> u32
+    ensures { λ r. ⌜ r ≡ version ⌝ }
+{
+    10000
+}
 
 // 1 to 20: the number of the first check that holds, or 0 for a sound bundle.
 #[no_mangle]
