@@ -3,6 +3,7 @@
 #include "calls.h"
 #include "arboricx.h"
 #include "fences.h"
+#include "record.h"
 #include "reference.h"
 
 #include <signal.h>
@@ -383,7 +384,7 @@ uint32_t both_check(void)
     begin_call("check");
     argument("file_len", (int64_t)file_len);
     on_side(ARCHIVE);
-    outcome.values[ARCHIVE][0] = arboricx_check(file, file_len);
+    outcome.values[ARCHIVE][0] = recorded_check(file, file_len);
     on_side(REFERENCE);
     outcome.values[REFERENCE][0] = reference_check(file, file_len);
     compare_outcome(&outcome);
@@ -392,11 +393,12 @@ uint32_t both_check(void)
 
 uint32_t both_load(struct lent *words, int32_t base, struct lent *exports, uint32_t answer[3])
 {
-    static uint32_t (*const load[SIDES])(const uint8_t *, size_t, uint32_t *, size_t, int32_t, uint32_t *, size_t,
-                                         uint32_t *) = {arboricx_load, reference_load};
+    static uint32_t (*const load[SIDES])(const uint8_t *, uint64_t, uint32_t *, uint64_t, int32_t, uint32_t *, uint64_t,
+                                         uint32_t *) = {recorded_load, reference_load};
     struct outcome outcome;
 
     begin_call("load");
+    record_whole(words->closed == 0);
     argument("file_len", (int64_t)file_len);
     argument("words_len", (int64_t)words->length);
     argument("closed", (int64_t)words->closed);
@@ -418,6 +420,7 @@ uint32_t both_load(struct lent *words, int32_t base, struct lent *exports, uint3
 
 static void run_arguments(const struct lent *words, const struct run *run)
 {
+    record_whole(words->closed == 0);
     argument("words_len", (int64_t)words->length);
     argument("closed", (int64_t)words->closed);
     argument("base", run->base);
@@ -438,8 +441,8 @@ static void compare_run(const struct outcome *outcome, const struct lent *words,
 
 uint32_t both_plain_run(struct lent *words, const struct run *run, uint32_t job_room, uint32_t answer[4])
 {
-    static uint32_t (*const runs[SIDES])(uint32_t *, size_t, int32_t, int32_t, int32_t, uint32_t, uint32_t, uint32_t,
-                                         uint32_t *) = {arboricx_plain_run, reference_plain_run};
+    static uint32_t (*const runs[SIDES])(uint32_t *, uint64_t, int32_t, int32_t, int32_t, uint32_t, uint32_t, uint32_t,
+                                         uint32_t *) = {recorded_plain_run, reference_plain_run};
     struct outcome outcome;
 
     begin_call("plain_run");
@@ -494,8 +497,8 @@ static void compare_engines(const struct beside *beside, const struct lent *word
 
 uint32_t both_run(struct lent *words, const struct run *run, struct lent *jobs, uint32_t answer[6])
 {
-    static uint32_t (*const runs[SIDES])(uint32_t *, size_t, int32_t, int32_t, int32_t, uint32_t, uint32_t, uint32_t *,
-                                         size_t, uint32_t *) = {arboricx_run, reference_run};
+    static uint32_t (*const runs[SIDES])(uint32_t *, uint64_t, int32_t, int32_t, int32_t, uint32_t, uint32_t,
+                                         uint32_t *, uint64_t, uint32_t *) = {recorded_run, reference_run};
     struct outcome outcome;
     struct beside beside;
 
@@ -518,9 +521,9 @@ uint32_t both_run(struct lent *words, const struct run *run, struct lent *jobs, 
 
 uint32_t both_carry_on(struct lent *words, const struct carry *carry, struct lent *jobs, uint32_t answer[6])
 {
-    static uint32_t (*const carries[SIDES])(uint32_t *, size_t, int32_t, int32_t, int32_t, uint32_t, uint32_t, uint32_t,
-                                            uint32_t, uint32_t *, size_t, uint32_t *) = {arboricx_carry_on,
-                                                                                         reference_carry_on};
+    static uint32_t (*const carries[SIDES])(uint32_t *, uint64_t, int32_t, int32_t, int32_t, uint32_t, uint32_t,
+                                            uint32_t, uint32_t, uint32_t *, uint64_t,
+                                            uint32_t *) = {recorded_carry_on, reference_carry_on};
     const struct run *run = &carry->run;
     struct outcome outcome;
 
@@ -542,8 +545,8 @@ uint32_t both_carry_on(struct lent *words, const struct carry *carry, struct len
 
 uint32_t both_index(const uint8_t *name, size_t name_len, uint32_t answer[2])
 {
-    static uint32_t (*const index[SIDES])(const uint8_t *, size_t, const uint8_t *, size_t, uint32_t *) = {
-        arboricx_export_index, reference_export_index};
+    static uint32_t (*const index[SIDES])(const uint8_t *, uint64_t, const uint8_t *, uint64_t, uint32_t *) = {
+        recorded_export_index, reference_export_index};
     struct outcome outcome;
     const uint8_t *lent_name = lend_name(name, name_len);
 
@@ -561,17 +564,17 @@ uint32_t both_index(const uint8_t *name, size_t name_len, uint32_t answer[2])
     return count_number(COUNT_INDEX, &outcome);
 }
 
-void both_name(uint32_t index, size_t answer[2])
+void both_name(uint32_t index, uint64_t answer[2])
 {
-    static void (*const name[SIDES])(const uint8_t *, size_t, uint32_t, size_t *) = {arboricx_export_name,
-                                                                                     reference_export_name};
+    static void (*const name[SIDES])(const uint8_t *, uint64_t, uint32_t, uint64_t *) = {recorded_export_name,
+                                                                                         reference_export_name};
     struct outcome outcome = {.count = ARBORICX_NAME_ANSWER};
 
     begin_call("export_name");
     argument("file_len", (int64_t)file_len);
     argument("index", index);
     for (unsigned side = 0; side < SIDES; side++) {
-        size_t *lent = lend_answer(side, ARBORICX_NAME_ANSWER * sizeof *lent);
+        uint64_t *lent = lend_answer(side, ARBORICX_NAME_ANSWER * sizeof *lent);
         on_side(side);
         name[side](file, file_len, index, lent);
         for (unsigned i = 0; i < ARBORICX_NAME_ANSWER; i++)
@@ -579,7 +582,7 @@ void both_name(uint32_t index, size_t answer[2])
     }
     compare_outcome(&outcome);
     for (unsigned i = 0; i < ARBORICX_NAME_ANSWER; i++)
-        answer[i] = (size_t)outcome.values[ARCHIVE][i];
+        answer[i] = outcome.values[ARCHIVE][i];
     if (answer[ARBORICX_NAME_LENGTH] > 0)
         names_found++;
     else
@@ -588,7 +591,7 @@ void both_name(uint32_t index, size_t answer[2])
 
 void both_sha256(size_t start, size_t length)
 {
-    static void (*const sha256[SIDES])(const uint8_t *, size_t, uint8_t *) = {arboricx_sha256, reference_sha256};
+    static void (*const sha256[SIDES])(const uint8_t *, uint64_t, uint8_t *) = {recorded_sha256, reference_sha256};
     struct outcome outcome = {.count = 4};
 
     begin_call("sha256");
@@ -625,7 +628,7 @@ uint64_t calls_made(void)
 void calls_prepare(const char *program)
 {
     static const size_t most[TABLES] = {MOST_WORDS, MOST_EXPORTS, MOST_JOBS, MOST_JOBS, MOST_WORDS};
-    size_t below_base = (size_t)INT32_MAX * sizeof(uint32_t); /* address space only: it is never opened */
+    size_t below_base = (size_t)LARGEST_BASE * sizeof(uint32_t); /* address space only: it is never opened */
 
     now.program = program;
     fence_make(&file_fence, MOST_FILE, 0);

@@ -10,6 +10,14 @@
 #include <stddef.h>
 #include <stdint.h>
 
+/* Whether memory of more than 4 GiB can be lent: not with 32 bits. With 0 their cases are played on 64 bits too. */
+#ifndef VAST_MEMORY
+#define VAST_MEMORY (SIZE_MAX > UINT32_MAX)
+#endif
+
+/* The largest base of a table. Its words before it take up addresses: with 32 bits only so many are to be had. */
+enum { LARGEST_BASE = VAST_MEMORY ? INT32_MAX : 0x7fffff };
+
 enum side { ARCHIVE, REFERENCE, SIDES };
 
 /* Equal tables, one for each side. The first `closed` words lie on pages that must not be touched. */
@@ -49,7 +57,7 @@ uint32_t both_load(struct lent *words, int32_t base, struct lent *exports, uint3
 
 /* The name may be some bytes of the lent file; else it is lent for itself. */
 uint32_t both_index(const uint8_t *name, size_t name_len, uint32_t answer[2]);
-void both_name(uint32_t index, size_t answer[2]);
+void both_name(uint32_t index, uint64_t answer[2]);
 void both_sha256(size_t start, size_t length);
 
 struct run {

@@ -498,9 +498,9 @@ void check_gigabyte(void)
 }
 
 /* A length that is a small one in its lower 32 bits. */
-static size_t vast(size_t low)
+static uint64_t vast(uint64_t low)
 {
-    return ((size_t)1 << 32) + low;
+    return ((uint64_t)1 << 32) + low;
 }
 
 static void check_vast_bytes(const struct bundle *bundle, uint8_t *map)
@@ -555,7 +555,7 @@ static void check_vast_tables(const struct bundle *bundle, uint32_t *words, uint
 void check_vast_lengths(void)
 {
     static struct bundle bundle;
-    size_t bytes = vast(1024) * sizeof(uint32_t);
+    size_t bytes = (size_t)vast(1024) * sizeof(uint32_t);
     uint32_t *words = map_vast(bytes, PROT_READ | PROT_WRITE), *exports = map_vast(bytes, PROT_READ | PROT_WRITE);
     struct dice dice = {1};
 

@@ -1,13 +1,14 @@
 /*
  * Holds the archive against the reference, on generated bundles, tables and runs of all kinds.
  *
- *     compare [--seed S] [--count N] [--first I] [--break K] [--zeros 1]
+ *     compare [--seed S] [--count N] [--first I] [--break K] [--zeros 1] [--record FILE]
  *
  * A case depends on the seed and its index alone: --seed S --first I --count 1 plays it again. --break K makes the
  * reference wrong in one way (reference.h lists them) and needs a build with REFERENCE_FAULTS; the comparison then has
  * to find a mismatch. --zeros 1 also hashes a gigabyte of zeros, whose length in bits needs more than 32 bits; that
- * takes some seconds. Ends with 0 if all agree, 1 at a mismatch, 2 at memory touched that was not lent, 3 if it cannot
- * be started.
+ * takes some seconds. --record FILE writes down the archive's calls (record.h says how), but for those on tables with
+ * closed pages or of vast lengths. Ends with 0 if all agree, 1 at a mismatch, 2 at memory touched that was not lent, 3
+ * if it cannot be started.
  */
 #include "bundles.h"
 #include "calls.h"
@@ -15,6 +16,7 @@
 #include "dice.h"
 #include "parts.h"
 #include "plan.h"
+#include "record.h"
 #include "reference.h"
 
 #include <inttypes.h>
@@ -84,7 +86,7 @@ static void play_name(const struct bundle *bundle, struct dice *dice)
 {
     static const uint32_t edges[] = {0, 1, 31, 32, 33, 255, 256, 65536, 0x7fffffff, 0x80000000, 0xffffffff};
     uint32_t index = dice_from(dice, 0, bundle->export_count);
-    size_t answer[2];
+    uint64_t answer[2];
 
     if (dice_once_in(dice, 3))
         index = edges[dice_below(dice, sizeof edges / sizeof edges[0])];
@@ -140,8 +142,8 @@ static struct place edge_place(struct dice *dice, size_t length)
 /* A table that holds so many slots from the base on, or almost, or some more. */
 static struct place fitting_place(struct dice *dice, uint32_t slots)
 {
-    static const int32_t bases[] = {0,    0,    1,     2,         3,             7,        100, 1023,
-                                    1024, 1025, 65536, 0x7ffffff, INT32_MAX - 1, INT32_MAX};
+    static const int32_t bases[] = {0,    0,    1,     2,                 3,                7,           100, 1023,
+                                    1024, 1025, 65536, LARGEST_BASE / 16, LARGEST_BASE - 1, LARGEST_BASE};
     struct place place = {0, 0, bases[dice_below(dice, dice_once_in(dice, 3) ? 14 : 7)]};
     size_t open = 2 * (size_t)slots;
 
@@ -705,8 +707,10 @@ static void play_calls(struct story *story, struct dice *dice, uint32_t calls)
             play_carry(story, dice, some_jobs_length(dice), 0);
         else if (kind < 30)
             play_plain(story, dice);
-        else
-            play_cut(story, dice, some_jobs_length(dice), dice_from(dice, 1, 40));
+        else {
+            uint32_t fuel = dice_from(dice, 1, 40); /* drawn first: the order of arguments is the compiler's */
+            play_cut(story, dice, some_jobs_length(dice), fuel);
+        }
         if (damaged && !dice_once_in(dice, 8))
             set_word(story, old.at, old.value);
     }
@@ -870,7 +874,7 @@ struct options {
 
 static void usage(void)
 {
-    fprintf(stderr, "usage: compare [--seed S] [--count N] [--first I] [--break K] [--zeros 1]\n");
+    fprintf(stderr, "usage: compare [--seed S] [--count N] [--first I] [--break K] [--zeros 1] [--record FILE]\n");
     exit(3);
 }
 
@@ -880,6 +884,10 @@ static void read_options(struct options *options, int count, char **arguments)
         char *end;
         if (i + 1 == count)
             usage();
+        if (strcmp(arguments[i], "--record") == 0) {
+            record_to(arguments[i + 1]);
+            continue;
+        }
         unsigned long long value = strtoull(arguments[i + 1], &end, 10);
         if (*arguments[i + 1] == '\0' || *end != '\0')
             usage();
@@ -923,7 +931,8 @@ int main(int count, char **arguments)
     check_paper_cases();
     check_carry_cases();
     check_plain_cases();
-    check_vast_lengths();
+    if (VAST_MEMORY)
+        check_vast_lengths();
     if (options.zeros)
         check_gigabyte();
     break_reference(options.broken);
@@ -932,6 +941,7 @@ int main(int count, char **arguments)
         calls_case(options.seed, options.first + i, options.broken);
         play_case(&dice);
     }
+    record_end();
     print_numbers();
     printf("%" PRIu64 " cases, %" PRIu64 " calls: all agree\n", options.count, calls_made());
     return 0;

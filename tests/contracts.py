@@ -27,6 +27,7 @@ PUBLIC = {
 }
 # the same of the functions that are exported for C
 FOR_C = {
+    "arboricx::arboricx_version": "LEFT ≡ version",
     "arboricx::arboricx_check": "LEFT ≡ refusal GIVEN",
     "arboricx::arboricx_load": "left LEFT ≡ afterLoad (load GIVEN)",
     "arboricx::arboricx_run": "left LEFT ≡ afterRun (runFrom Scratch GIVEN)",
@@ -50,7 +51,7 @@ SOURCES = [
     ("plain/Run", ["played"]),
     ("listing/Listing", ["listing"]),
     ("sha256_block/Fips180", ["sha256"]),
-    ("answers/Words", ["partWords"]),
+    ("answers/Words", ["partWords", "version"]),
     ("answers/Calls", ["left", "leftOne", "told", "afterLoad", "afterRun", "afterPlain", "afterIndex"]),
     ("mathlib.Core.Path", ["_≡_"]),
     ("Prim.Native.Nat", ["_≤_"]),
@@ -292,7 +293,7 @@ def wrong(texts, sources):
         yield f"a call for C of {path} that is not known", {path: texts[path] + new}, "::arboricx_new: tests/contracts.py does not know"
     path = "crates/arboricx/src/lib.rt"
     new = texts[path].replace("#[no_mangle]\n", "", 1)
-    yield "a call that is not exported", {path: new}, "arboricx::arboricx_check: is not exported for C"
+    yield "a call that is not exported", {path: new}, "arboricx::arboricx_version: is not exported for C"
     new = texts["README.md"].replace("| `bundle::check(file)` |", "| |")
     yield "a public call left out of README.md", {"README.md": new}, "bundle::check: a public call that the table has not"
     new = texts["README.md"].replace("`bundle::check(file)`", "`bundle::check(file)`, `check_names(file)`")

@@ -5,14 +5,17 @@
 
 Names: the functions that the header declares are those that the source exports and the archive defines, and the archive wants
 nothing else than memcpy and memset. Arguments: each function is declared once more, as its source has it, beside the header; the
-compiler refuses two declarations that differ. The arguments have the same names too. Sizes: each lent array has the
-length that the source says, and each limit of the header is the source's constant. The header is C99, C11 and C++.
+compiler refuses two declarations that differ. The arguments have the same names too, and what the header tells the compiler of
+pointers and lengths is so. Sizes: each lent array has the length that the source says, and each limit of the header is the source's
+constant, as is its version, which is also the newest of CHANGELOG.md. Each number has a text of its own. The header is C99, C11 and C++.
+A compiler that knows the attributes refuses a null table, a short answer and a length that is too long.
 
 Then the same is asked of headers that are wrong, each in one place; the test fails if one of them passes.
 """
 
 import pathlib
 import re
+import shutil
 import subprocess
 import sys
 import tempfile
@@ -23,8 +26,10 @@ HEADER = (ROOT / "include/arboricx.h").read_text()
 SIZES = (ROOT / "crates/sizes/src/lib.rt").read_text()
 LIMITS = (ROOT / "crates/table/src/limits.rt").read_text()
 APPLYING = (ROOT / "crates/applying/src/lib.rt").read_text()
+CHANGES = (ROOT / "CHANGELOG.md").read_text()
 
-C_TYPE = {"u8": "uint8_t", "u32": "uint32_t", "i32": "int32_t", "usize": "size_t"}
+# a length or a place has 64 bits in the archive of every processor
+C_TYPE = {"u8": "uint8_t", "u32": "uint32_t", "i32": "int32_t", "usize": "uint64_t"}
 
 
 class Differs(Exception):
@@ -51,17 +56,48 @@ def in_c(name, kind):
     if array := re.fullmatch(r"&mut \[(\w+); (\d+)\]", kind):
         return [(name, f"{C_TYPE[array[1]]} [{array[2]}]", int(array[2]))]
     if part := re.fullmatch(r"&(mut )?\[(\w+)\]", kind):
-        return [(name, ("" if part[1] else "const ") + C_TYPE[part[2]] + " *", None), (name + "_len", "size_t", None)]
+        return [(name, ("" if part[1] else "const ") + C_TYPE[part[2]] + " *", None), (name + "_len", "uint64_t", None)]
     return [(name, C_TYPE[kind], None)]
 
 
 def declared(header):
-    """Each function of the header: for each argument its name, and the length of a lent array as it is written."""
-    text = re.sub(r"/\*.*?\*/", "", header, flags=re.S)
+    """Each function of the header: for each argument its name, and the length of a lent array as it is written; and its attributes."""
+    text = re.sub(r"/\*.*?\*/|^#.*?(?<!\\)$", "", header, flags=re.S | re.M)
+    text = re.sub(r"ARBORICX_AT_LEAST\((\w+)\)", r"\1", text)
     found = {}
-    for name, arguments in re.findall(r"^\w+ (\w+)\(([^)]*)\);", text, re.M):
-        found[name] = [re.fullmatch(r".*?(\w+)(?:\[(\w+)\])?", a.strip(), re.S).groups() for a in arguments.split(",")]
+    for name, arguments, attributes in re.findall(r"^\w+ (\w+)\(([^()]*)\)((?:\s+ARBORICX_\w+(?:\(\d+, \d+\))?)*);", text, re.M):
+        listed = [] if arguments == "void" else arguments.split(",")
+        found[name] = [re.fullmatch(r".*?(\w+)(?:\[(\w+)\])?", a.strip(), re.S).groups() for a in listed], attributes.split()
     return found
+
+
+def judge_attributes(name, kinds, attributes):
+    """No pointer is null, and each table that stands before its length is said to be that long: read, if it is const."""
+    said = " ".join(attributes)
+    wanted = ["ARBORICX_NONNULL"] if any(k[-1] in "*]" for _, k, _ in kinds) else []
+    for place, (_, kind, _) in enumerate(kinds, 1):
+        if kind.endswith("*"):
+            pair = rf"\({place}, {place + 1}\)"
+            wanted.append(("ARBORICX_READS" if kind.startswith("const") else r"ARBORICX_(?:CHANGES|FILLS)") + pair)
+    if not re.fullmatch(" ".join(wanted), said):
+        raise Differs(f"attributes of {name}: {said}")
+
+
+def judge_texts(header):
+    """Each number has one text, and no two share one."""
+    numbers = re.findall(r"^    (ARBORICX_\w+) = \d+", re.search(r"enum arboricx_number \{(.*?)\};", header, re.S)[1], re.M)
+    texts = re.findall(r"^    case (ARBORICX_\w+): return \"([^\"]+)\";$", header, re.M)
+    agree("numbers that have a text", [n for n, _ in texts], numbers)
+    agree("different texts", len({text for _, text in texts}), len(texts))
+
+
+def judge_version(header):
+    """The version as a number, as text, in the source, and as the newest of the changes."""
+    number = int(re.search(r"^#define ARBORICX_VERSION (\d+)$", header, re.M)[1])
+    text = re.search(r'^#define ARBORICX_VERSION_TEXT "(.*)"$', header, re.M)[1]
+    agree("the version as text", text, f"{number // 10000}.{number // 100 % 100}.{number % 100}")
+    agree("the version of the source", int(re.search(r"fn arboricx_version\(\).*?^    (\d+)$", SOURCE, re.S | re.M)[1]), number)
+    agree("the newest version of CHANGELOG.md", re.search(r"^## (\S+)", CHANGES, re.M)[1], text)
 
 
 def symbols(archive):
@@ -89,11 +125,11 @@ def limits():
 
 def second_opinion(functions, header):
     """C text that the compiler takes only if the header agrees with the source."""
-    lines = ['#include "arboricx.h"', "_Static_assert(sizeof(size_t) == 8, \"x86-64\");"]
+    lines = ['#include "arboricx.h"']
     for name, (result, arguments) in functions.items():
         kinds = [a for n, t in arguments for a in in_c(n, t)]
-        lines.append(f"{C_TYPE.get(result, 'void')} {name}({', '.join(k for _, k, _ in kinds)});")
-        for (_, bound), (argument, _, length) in zip(header[name], kinds):
+        lines.append(f"{C_TYPE.get(result, 'void')} {name}({', '.join(k for _, k, _ in kinds) or 'void'});")
+        for (_, bound), (argument, _, length) in zip(header[name][0], kinds):
             agree(f"{name}, whether {argument} is a lent array", bound is not None, length is not None)
             if bound is not None:
                 lines.append(f'_Static_assert({bound} == {length}, "{name}, {argument}");')
@@ -114,7 +150,11 @@ def judge(header_text, archive):
     agree("names of the archive and of the source", sorted(names["T"]), sorted(functions))
     agree("what the archive wants", sorted(names["U"] - {"memcpy", "memset"}), [])
     for name, (_, arguments) in functions.items():
-        agree(f"arguments of {name}", [n for n, _ in header[name]], [c for n, t in arguments for c, _, _ in in_c(n, t)])
+        kinds = [a for n, t in arguments for a in in_c(n, t)]
+        agree(f"arguments of {name}", [n for n, _ in header[name][0]], [n for n, _, _ in kinds])
+        judge_attributes(name, kinds, header[name][1])
+    judge_texts(header_text)
+    judge_version(header_text)
     with tempfile.TemporaryDirectory() as folder:
         here = pathlib.Path(folder)
         (here / "arboricx.h").write_text(header_text)
@@ -127,30 +167,59 @@ def judge(header_text, archive):
         compiles(["c++", *strict, here / "agree.cc", "-o", here / "agree"], "C++")
 
 
+# programs that a compiler is to refuse, and whether clang does too
+MISUSE = [
+    ("a short answer", "uint32_t a[2]; return (int)arboricx_load(file, 9, words, 9, 0, words, 0, a);", True),
+    ("a null table", "uint32_t a[3]; return (int)arboricx_load(file, 9, 0, 0, 0, words, 9, a);", True),
+    ("a null file", "return (int)arboricx_check(0, 0);", True),
+    ("a length in bytes", "uint32_t a[6]; return (int)arboricx_run(words, sizeof words, 0, 0, 0, 1, 1, words, 9, a);", False),
+    ("a file that is not so long", "return (int)arboricx_check(file, 10);", False),
+]
+RIGHT = "uint32_t a[6], e[9], j[9]; arboricx_load(file, 9, words, 9, 0, e, 9, a); return (int)arboricx_run(words, 9, 0, 0, 0, 1, 1, j, 9, a);"
+
+
+def judge_misuse():
+    """A compiler warns of each misuse, and not of the right use."""
+    for compiler in filter(shutil.which, ["gcc", "clang"]):
+        command = [compiler, "-std=c11", "-O1", "-Wall", "-Wextra", "-Werror", "-I", ROOT / "include", "-x", "c", "-c", "-", "-o", "/dev/null"]
+        for label, body, everywhere in [("the right use", RIGHT, None), *MISUSE]:
+            program = f'#include "arboricx.h"\nuint8_t file[9];\nuint32_t words[9];\nint call(void);\nint call(void) {{ {body} }}\n'
+            taken = subprocess.run(command, input=program, capture_output=True, text=True).returncode == 0
+            if everywhere is None or everywhere or compiler == "gcc":
+                agree(f"whether {compiler} takes {label}", taken, everywhere is None)
+
+
 WRONG = [
     ("another name", "arboricx_load(", "arboricx_lade("),
     ("a call that is not there", "uint32_t arboricx_check(", "uint32_t arboricx_test(void);\nuint32_t arboricx_check("),
-    ("an unsigned base", "size_t words_len, int32_t base,\n                       uint32_t *exports", "size_t words_len, uint32_t base,\n                       uint32_t *exports"),
-    ("a short length", "uint32_t fuel,\n                      uint32_t *jobs, size_t jobs_len", "uint32_t fuel,\n                      uint32_t *jobs, uint32_t jobs_len"),
+    ("an unsigned base", "uint64_t words_len, int32_t base,\n                       uint32_t *exports", "uint64_t words_len, uint32_t base,\n                       uint32_t *exports"),
+    ("a short length", "uint32_t fuel,\n                      uint32_t *jobs, uint64_t jobs_len", "uint32_t fuel,\n                      uint32_t *jobs, uint32_t jobs_len"),
     ("a file that is written", "arboricx_check(const uint8_t *file", "arboricx_check(uint8_t *file"),
     ("f and x swapped", "int32_t f, int32_t x, uint32_t used, uint32_t fuel,\n", "int32_t x, int32_t f, uint32_t used, uint32_t fuel,\n"),
     ("no fuel", "uint32_t used, uint32_t fuel,\n", "uint32_t used,\n"),
     ("jobs and steps swapped", "uint32_t waiting, uint32_t steps,", "uint32_t steps, uint32_t waiting,"),
     ("no earlier steps", "uint32_t waiting, uint32_t steps, uint32_t fuel,", "uint32_t waiting, uint32_t fuel,"),
     ("fuel and job room swapped", "uint32_t fuel, uint32_t job_room,", "uint32_t job_room, uint32_t fuel,"),
-    ("a wide job room", "uint32_t fuel, uint32_t job_room,", "uint32_t fuel, size_t job_room,"),
+    ("a wide job room", "uint32_t fuel, uint32_t job_room,", "uint32_t fuel, uint64_t job_room,"),
     ("a result", "void arboricx_export_name(", "uint32_t arboricx_export_name("),
     ("no result", "uint32_t arboricx_run(", "void arboricx_run("),
     ("a short answer", "    ARBORICX_RUN_JOBS, ", "    "),
     ("a short plain answer", "    ARBORICX_PLAIN_USED,\n", ""),
-    ("words for places", "size_t answer[ARBORICX_NAME_ANSWER]", "uint32_t answer[ARBORICX_NAME_ANSWER]"),
+    ("words for places", "uint64_t answer[ARBORICX_AT_LEAST(ARBORICX_NAME_ANSWER)]", "uint32_t answer[ARBORICX_AT_LEAST(ARBORICX_NAME_ANSWER)]"),
     ("another limit", "ARBORICX_MAX_SLOTS 65535", "ARBORICX_MAX_SLOTS 65536"),
     ("a half digest", "ARBORICX_DIGEST_BYTES 32", "ARBORICX_DIGEST_BYTES 16"),
+    ("a length that depends on the processor", "arboricx_check(const uint8_t *file, uint64_t file_len)", "arboricx_check(const uint8_t *file, size_t file_len)"),
+    ("a number with no text", '    case ARBORICX_TOO_DEEP: return "a plain run takes at most 1,000 steps and 1,000 jobs";\n', ""),
+    ("one text for two numbers", '"the hash of a node is wrong"', '"two nodes carry the same hash"'),
+    ("another version", "ARBORICX_VERSION 10000", "ARBORICX_VERSION 10001"),
+    ("a table with another's length", "ARBORICX_READS(1, 2) ARBORICX_FILLS(3, 4)", "ARBORICX_READS(1, 4) ARBORICX_FILLS(3, 2)"),
+    ("jobs that are only read", "ARBORICX_CHANGES(1, 2) ARBORICX_CHANGES(10, 11)", "ARBORICX_CHANGES(1, 2) ARBORICX_READS(10, 11)"),
 ]
 
 
 def main(archive):
     judge(HEADER, archive)
+    judge_misuse()
     for label, old, new in WRONG:
         agree(f"places to try '{label}' at", HEADER.count(old), 1)
         try:

@@ -133,22 +133,22 @@ static void compress_tail(uint32_t state[8], const uint8_t *rest, size_t rest_le
         compress(state, tail + at);
 }
 
-void reference_sha256(const uint8_t *bytes, size_t bytes_len, uint8_t digest[32])
+void reference_sha256(const uint8_t *bytes, uint64_t bytes_len, uint8_t digest[32])
 {
     uint32_t state[8] = {0x6a09e667, 0xbb67ae85, 0x3c6ef372, 0xa54ff53a,
                          0x510e527f, 0x9b05688c, 0x1f83d9ab, 0x5be0cd19};
-    size_t whole = bytes_len - bytes_len % 64;
+    size_t whole = (size_t)(bytes_len - bytes_len % 64);
 
     for (size_t at = 0; at < whole; at += 64)
         compress(state, bytes + at);
-    compress_tail(state, bytes + whole, bytes_len - whole, (uint64_t)bytes_len * 8);
+    compress_tail(state, bytes + whole, (size_t)bytes_len - whole, bytes_len * 8);
     for (size_t i = 0; i < 32; i++)
         digest[i] = (uint8_t)(state[i / 4] >> (24 - 8 * (i % 4)));
 }
 
 /* ---- Header and directory: 1 to 11 */
 
-static uint32_t check_header(const uint8_t *file, size_t file_len)
+static uint32_t check_header(const uint8_t *file, uint64_t file_len)
 {
     if (file_len > MAX_FILE)
         return 1;
@@ -181,7 +181,7 @@ static bool entry_coded(const uint8_t *entry)
     return read_u16(entry + 8) != 0 || read_u16(entry + 10) != 1;
 }
 
-static bool entry_outside(const uint8_t *entry, size_t file_len)
+static bool entry_outside(const uint8_t *entry, uint64_t file_len)
 {
     uint64_t offset = read_u64(entry + 12);
     uint64_t length = read_u64(entry + 20);
@@ -191,7 +191,7 @@ static bool entry_outside(const uint8_t *entry, size_t file_len)
     return offset > file_len || length > file_len - offset;
 }
 
-static uint32_t check_entries(const uint8_t *file, size_t file_len)
+static uint32_t check_entries(const uint8_t *file, uint64_t file_len)
 {
     const uint8_t *end = file + HEADER_BYTES + read_u32(file + 12) * ENTRY_BYTES;
     const uint8_t *entry;
@@ -490,7 +490,7 @@ static uint32_t check_manifest(struct part section, struct manifest *manifest)
 }
 
 /* All that is checked without the nodes: 1 to 14. */
-static uint32_t read_manifest(const uint8_t *file, size_t file_len, struct manifest *manifest, struct part *nodes)
+static uint32_t read_manifest(const uint8_t *file, uint64_t file_len, struct manifest *manifest, struct part *nodes)
 {
     struct part section;
     uint32_t number = check_header(file, file_len);
@@ -653,7 +653,7 @@ static uint32_t check_nodes(struct part section, const struct manifest *manifest
     return references_lost(manifest, nodes) ? 20 : 0;
 }
 
-static uint32_t read_bundle(const uint8_t *file, size_t file_len, struct manifest *manifest, struct nodes *nodes)
+static uint32_t read_bundle(const uint8_t *file, uint64_t file_len, struct manifest *manifest, struct nodes *nodes)
 {
     struct part section;
     uint32_t number = read_manifest(file, file_len, manifest, &section);
@@ -669,14 +669,14 @@ static int32_t signed_number(enum reference_fault_place fault, int32_t number)
     return reference_fault_at(fault) && number < 0 ? 0 : number;
 }
 
-static bool base_outside(size_t words_len, int32_t base)
+static bool base_outside(uint64_t words_len, int32_t base)
 {
-    return base < 0 || (size_t)base > words_len;
+    return base < 0 || (uint64_t)base > words_len;
 }
 
-static uint32_t room_from(size_t words_len, int32_t base)
+static uint32_t room_from(uint64_t words_len, int32_t base)
 {
-    size_t room = (words_len - (size_t)base) / SLOT_WORDS;
+    uint64_t room = (words_len - (uint64_t)base) / SLOT_WORDS;
 
     return room < MAX_SLOTS ? (uint32_t)room : MAX_SLOTS;
 }
@@ -709,7 +709,7 @@ static void write_exports(const struct manifest *manifest, const struct nodes *n
 
 /* ---- The calls on bundles */
 
-uint32_t reference_check(const uint8_t *file, size_t file_len)
+uint32_t reference_check(const uint8_t *file, uint64_t file_len)
 {
     struct manifest manifest;
     struct nodes nodes;
@@ -726,8 +726,8 @@ static uint32_t answer_load(uint32_t answer[3], uint32_t number, uint32_t nodes,
     return number;
 }
 
-uint32_t reference_load(const uint8_t *file, size_t file_len, uint32_t *words, size_t words_len, int32_t base,
-                        uint32_t *exports, size_t exports_len, uint32_t answer[3])
+uint32_t reference_load(const uint8_t *file, uint64_t file_len, uint32_t *words, uint64_t words_len, int32_t base,
+                        uint32_t *exports, uint64_t exports_len, uint32_t answer[3])
 {
     struct manifest manifest;
     struct nodes nodes;
@@ -752,11 +752,11 @@ static uint32_t answer_index(uint32_t answer[2], uint32_t number, uint32_t index
     return number;
 }
 
-uint32_t reference_export_index(const uint8_t *file, size_t file_len, const uint8_t *name, size_t name_len,
+uint32_t reference_export_index(const uint8_t *file, uint64_t file_len, const uint8_t *name, uint64_t name_len,
                                 uint32_t answer[2])
 {
     struct manifest manifest;
-    struct part nodes, wanted = {name, name_len};
+    struct part nodes, wanted = {name, (size_t)name_len};
     uint32_t number = read_manifest(file, file_len, &manifest, &nodes);
 
     if (number != 0)
@@ -769,7 +769,7 @@ uint32_t reference_export_index(const uint8_t *file, size_t file_len, const uint
     return answer_index(answer, 25, 0);
 }
 
-void reference_export_name(const uint8_t *file, size_t file_len, uint32_t index, size_t answer[2])
+void reference_export_name(const uint8_t *file, uint64_t file_len, uint32_t index, uint64_t answer[2])
 {
     struct manifest manifest;
     struct part nodes;
@@ -778,7 +778,7 @@ void reference_export_name(const uint8_t *file, size_t file_len, uint32_t index,
     answer[1] = 0;
     if (read_manifest(file, file_len, &manifest, &nodes) != 0 || index >= manifest.export_count)
         return;
-    answer[0] = (size_t)(manifest.exports[index].name.bytes - file);
+    answer[0] = (uint64_t)(manifest.exports[index].name.bytes - file);
     answer[1] = manifest.exports[index].name.length;
 }
 
@@ -967,7 +967,7 @@ static bool slot_unused(int32_t slot, uint32_t used)
 }
 
 /* What all kinds of runs refuse alike: 21, 23 and 24. Else 0, and the machine has its slots, f and x. */
-static uint32_t lend_slots(struct machine *machine, uint32_t *words, size_t words_len, int32_t base, int32_t f,
+static uint32_t lend_slots(struct machine *machine, uint32_t *words, uint64_t words_len, int32_t base, int32_t f,
                            int32_t x)
 {
     base = signed_number(FAULT_NEGATIVE_BASE, base);
@@ -989,9 +989,9 @@ static uint32_t lend_slots(struct machine *machine, uint32_t *words, size_t word
     return 0;
 }
 
-static void lend_jobs(struct machine *machine, uint32_t *jobs, size_t jobs_len)
+static void lend_jobs(struct machine *machine, uint32_t *jobs, uint64_t jobs_len)
 {
-    size_t room = jobs_len / JOB_WORDS;
+    uint64_t room = jobs_len / JOB_WORDS;
 
     machine->jobs = jobs;
     machine->job_room = room < MAX_JOBS ? (uint32_t)room : MAX_JOBS;
@@ -1004,8 +1004,8 @@ static uint32_t refuse_run(uint32_t answer[6], uint32_t number)
     return number;
 }
 
-uint32_t reference_run(uint32_t *words, size_t words_len, int32_t base, int32_t f, int32_t x, uint32_t used,
-                       uint32_t fuel, uint32_t *jobs, size_t jobs_len, uint32_t answer[6])
+uint32_t reference_run(uint32_t *words, uint64_t words_len, int32_t base, int32_t f, int32_t x, uint32_t used,
+                       uint32_t fuel, uint32_t *jobs, uint64_t jobs_len, uint32_t answer[6])
 {
     struct machine machine = {.used = used, .fuel = fuel};
     uint32_t number = lend_slots(&machine, words, words_len, base, f, x);
@@ -1031,9 +1031,9 @@ static bool job_damaged(const uint32_t *job, uint32_t used)
 }
 
 /* The waiting jobs are damaged: too many, one that is none, or a word above them that is not 0. */
-static bool jobs_damaged(const struct machine *machine, size_t jobs_len)
+static bool jobs_damaged(const struct machine *machine, uint64_t jobs_len)
 {
-    size_t end = reference_fault_at(FAULT_REMAINDER_UNSEEN) ? (size_t)machine->job_room * JOB_WORDS : jobs_len;
+    uint64_t end = reference_fault_at(FAULT_REMAINDER_UNSEEN) ? (uint64_t)machine->job_room * JOB_WORDS : jobs_len;
 
     if (machine->waiting > machine->job_room)
         return true;
@@ -1058,8 +1058,8 @@ static bool too_many_steps(const struct machine *machine)
     return sum > UINT32_MAX;
 }
 
-uint32_t reference_carry_on(uint32_t *words, size_t words_len, int32_t base, int32_t f, int32_t x, uint32_t used,
-                            uint32_t waiting, uint32_t steps, uint32_t fuel, uint32_t *jobs, size_t jobs_len,
+uint32_t reference_carry_on(uint32_t *words, uint64_t words_len, int32_t base, int32_t f, int32_t x, uint32_t used,
+                            uint32_t waiting, uint32_t steps, uint32_t fuel, uint32_t *jobs, uint64_t jobs_len,
                             uint32_t answer[6])
 {
     struct machine machine = {.used = used, .waiting = waiting, .steps = steps, .fuel = fuel};
@@ -1246,7 +1246,7 @@ static uint32_t answer_plain(uint32_t answer[4], uint32_t number, uint32_t slot,
     return number;
 }
 
-uint32_t reference_plain_run(uint32_t *words, size_t words_len, int32_t base, int32_t f, int32_t x, uint32_t used,
+uint32_t reference_plain_run(uint32_t *words, uint64_t words_len, int32_t base, int32_t f, int32_t x, uint32_t used,
                              uint32_t fuel, uint32_t job_room, uint32_t answer[4])
 {
     struct machine lent = {.used = used};

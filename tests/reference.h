@@ -8,27 +8,27 @@
 #include <stddef.h>
 #include <stdint.h>
 
-uint32_t reference_check(const uint8_t *file, size_t file_len);
+uint32_t reference_check(const uint8_t *file, uint64_t file_len);
 
-uint32_t reference_load(const uint8_t *file, size_t file_len, uint32_t *words, size_t words_len, int32_t base,
-                        uint32_t *exports, size_t exports_len, uint32_t answer[3]);
+uint32_t reference_load(const uint8_t *file, uint64_t file_len, uint32_t *words, uint64_t words_len, int32_t base,
+                        uint32_t *exports, uint64_t exports_len, uint32_t answer[3]);
 
-uint32_t reference_run(uint32_t *words, size_t words_len, int32_t base, int32_t f, int32_t x, uint32_t used,
-                       uint32_t fuel, uint32_t *jobs, size_t jobs_len, uint32_t answer[6]);
+uint32_t reference_run(uint32_t *words, uint64_t words_len, int32_t base, int32_t f, int32_t x, uint32_t used,
+                       uint32_t fuel, uint32_t *jobs, uint64_t jobs_len, uint32_t answer[6]);
 
-uint32_t reference_carry_on(uint32_t *words, size_t words_len, int32_t base, int32_t f, int32_t x, uint32_t used,
-                            uint32_t waiting, uint32_t steps, uint32_t fuel, uint32_t *jobs, size_t jobs_len,
+uint32_t reference_carry_on(uint32_t *words, uint64_t words_len, int32_t base, int32_t f, int32_t x, uint32_t used,
+                            uint32_t waiting, uint32_t steps, uint32_t fuel, uint32_t *jobs, uint64_t jobs_len,
                             uint32_t answer[6]);
 
-uint32_t reference_plain_run(uint32_t *words, size_t words_len, int32_t base, int32_t f, int32_t x, uint32_t used,
+uint32_t reference_plain_run(uint32_t *words, uint64_t words_len, int32_t base, int32_t f, int32_t x, uint32_t used,
                              uint32_t fuel, uint32_t job_room, uint32_t answer[4]);
 
-uint32_t reference_export_index(const uint8_t *file, size_t file_len, const uint8_t *name, size_t name_len,
+uint32_t reference_export_index(const uint8_t *file, uint64_t file_len, const uint8_t *name, uint64_t name_len,
                                 uint32_t answer[2]);
 
-void reference_export_name(const uint8_t *file, size_t file_len, uint32_t index, size_t answer[2]);
+void reference_export_name(const uint8_t *file, uint64_t file_len, uint32_t index, uint64_t answer[2]);
 
-void reference_sha256(const uint8_t *bytes, size_t bytes_len, uint8_t digest[32]);
+void reference_sha256(const uint8_t *bytes, uint64_t bytes_len, uint8_t digest[32]);
 
 /*
  * Faults that can be switched on to see that the comparison finds them. They exist only where REFERENCE_FAULTS is
