@@ -1,6 +1,6 @@
 /*
- * Times the archive's calls beside plain C and its two engines beside each other, and measures their stack. A report,
- * not a test: it fails only where two sides disagree in an answer.
+ * Times the archive's calls beside plain C and its two engines beside each other. A report, not a test: it fails only
+ * where two sides disagree in an answer.
  */
 #include <stdio.h>
 #include <stdlib.h>
@@ -11,7 +11,6 @@
 #include "program.h"
 #include "race.h"
 #include "side.h"
-#include "stack.h"
 #include "workloads.h"
 
 enum {
@@ -413,7 +412,7 @@ static void timed_index(const struct side *side, const void *input)
 static void timed_name(const struct side *side, const void *input)
 {
     const struct wanted *w = input;
-    size_t part[ARBORICX_NAME_ANSWER];
+    uint64_t part[ARBORICX_NAME_ANSWER];
     side->export_name(w->bundle->bytes, w->bundle->len, w->index, part);
     expect(part[ARBORICX_NAME_LENGTH] == strlen(w->name), "export_name");
     expect(memcmp(w->bundle->bytes + part[ARBORICX_NAME_START], w->name, strlen(w->name)) == 0, "export_name");
@@ -469,9 +468,9 @@ int main(int argc, char **argv)
     static const uint32_t node_counts[BUNDLES] = {1, 64, ARBORICX_MAX_NODES};
     static const uint32_t part_fuels[WORKLOADS] = {1000, 1000, 100000};
     static struct bundle many_exports;
-    rounds = argc == 3 ? atoi(argv[1]) : 0;
+    rounds = argc == 2 || argc == 3 ? atoi(argv[1]) : 0;
     if (rounds < 1 || rounds > MAX_ROUNDS) {
-        fprintf(stderr, "usage: bench ROUNDS PROGRAM, with 1 to %d rounds, and the program check_bundle\n", MAX_ROUNDS);
+        fprintf(stderr, "usage: bench ROUNDS [PROGRAM], with 1 to %d rounds, and the program check_bundle\n", MAX_ROUNDS);
         return 2;
     }
     make_workloads(workloads);
@@ -487,11 +486,12 @@ int main(int argc, char **argv)
     load_row(&many_exports);
     export_rows(&many_exports, 0);
     export_rows(&many_exports, ARBORICX_MAX_EXPORTS - 1);
-    program_row(argv[2], &bundles[1]);
-    program_row(argv[2], &many_exports);
+    if (argc == 3) {
+        program_row(argv[2], &bundles[1]);
+        program_row(argv[2], &many_exports);
+    }
     entry_rows();
     queue_rows();
-    print_stack_table(bundles, BUNDLES, workloads, chains);
     engines_table();
     return 0;
 }

@@ -1,8 +1,8 @@
 #include "plain_run.h"
 
-static size_t at_most(size_t count, size_t limit)
+static size_t at_most(uint64_t count, size_t limit)
 {
-    return count < limit ? count : limit;
+    return count < limit ? (size_t)count : limit;
 }
 
 static uint32_t tell(uint32_t *answer, uint32_t number, size_t f, size_t x, uint32_t steps, size_t used, size_t waiting)
@@ -46,12 +46,12 @@ static inline uint32_t *meet(uint32_t *job, size_t t, size_t *f, size_t *x)
 
 /* One loop for all seven rules, which keeps its state in registers. Each of the two calls has a copy of its own. */
 __attribute__((always_inline))
-static inline uint32_t drive(uint32_t *words, size_t words_len, int32_t base, int32_t f_slot, int32_t x_slot,
+static inline uint32_t drive(uint32_t *words, uint64_t words_len, int32_t base, int32_t f_slot, int32_t x_slot,
                              uint32_t used_slots, uint32_t waiting, uint32_t steps, uint32_t fuel, uint32_t *jobs,
-                             size_t jobs_len, uint32_t *answer)
+                             uint64_t jobs_len, uint32_t *answer)
 {
     uint32_t *const slots = words + base;
-    const size_t room = at_most((words_len - (size_t)base) / ARBORICX_SLOT_WORDS, ARBORICX_MAX_SLOTS);
+    const size_t room = at_most((words_len - (uint64_t)base) / ARBORICX_SLOT_WORDS, ARBORICX_MAX_SLOTS);
     uint32_t *const end = jobs + ARBORICX_JOB_WORDS * at_most(jobs_len / ARBORICX_JOB_WORDS, ARBORICX_MAX_JOBS);
     uint32_t *job = jobs + ARBORICX_JOB_WORDS * (size_t)waiting;
     size_t f = (size_t)f_slot, x = (size_t)x_slot, used = used_slots, t;
@@ -91,14 +91,14 @@ static inline uint32_t drive(uint32_t *words, size_t words_len, int32_t base, in
     return tell(answer, number, f, x, steps + fuel - left, used, (size_t)(job - jobs) / ARBORICX_JOB_WORDS);
 }
 
-uint32_t plain_run(uint32_t *words, size_t words_len, int32_t base, int32_t f, int32_t x, uint32_t used, uint32_t fuel,
-                   uint32_t *jobs, size_t jobs_len, uint32_t answer[ARBORICX_RUN_ANSWER])
+uint32_t plain_run(uint32_t *words, uint64_t words_len, int32_t base, int32_t f, int32_t x, uint32_t used,
+                   uint32_t fuel, uint32_t *jobs, uint64_t jobs_len, uint32_t answer[ARBORICX_RUN_ANSWER])
 {
     return drive(words, words_len, base, f, x, used, 0, 0, fuel, jobs, jobs_len, answer);
 }
 
-uint32_t plain_carry_on(uint32_t *words, size_t words_len, int32_t base, int32_t f, int32_t x, uint32_t used,
-                        uint32_t waiting, uint32_t steps, uint32_t fuel, uint32_t *jobs, size_t jobs_len,
+uint32_t plain_carry_on(uint32_t *words, uint64_t words_len, int32_t base, int32_t f, int32_t x, uint32_t used,
+                        uint32_t waiting, uint32_t steps, uint32_t fuel, uint32_t *jobs, uint64_t jobs_len,
                         uint32_t answer[ARBORICX_RUN_ANSWER])
 {
     return drive(words, words_len, base, f, x, used, waiting, steps, fuel, jobs, jobs_len, answer);
@@ -113,7 +113,7 @@ int plain_sound(const uint32_t *slots, uint32_t used)
     return 1;
 }
 
-int plain_jobs_sound(const uint32_t *jobs, size_t jobs_len, uint32_t waiting, uint32_t used)
+int plain_jobs_sound(const uint32_t *jobs, uint64_t jobs_len, uint32_t waiting, uint32_t used)
 {
     const size_t above = ARBORICX_JOB_WORDS * (size_t)waiting;
     if (waiting > at_most(jobs_len / ARBORICX_JOB_WORDS, ARBORICX_MAX_JOBS)) return 0;

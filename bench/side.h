@@ -10,16 +10,17 @@
 
 struct side {
     const char *compiler;
-    uint32_t (*load)(const uint8_t *, size_t, uint32_t *, size_t, int32_t, uint32_t *, size_t, uint32_t *);
-    uint32_t (*run)(uint32_t *, size_t, int32_t, int32_t, int32_t, uint32_t, uint32_t, uint32_t *, size_t, uint32_t *);
-    uint32_t (*carry_on)(uint32_t *, size_t, int32_t, int32_t, int32_t, uint32_t, uint32_t, uint32_t, uint32_t,
-                         uint32_t *, size_t, uint32_t *);
-    uint32_t (*export_index)(const uint8_t *, size_t, const uint8_t *, size_t, uint32_t *);
-    void (*export_name)(const uint8_t *, size_t, uint32_t, size_t *);
-    void (*sha256)(const uint8_t *, size_t, uint8_t *);
+    uint32_t (*load)(const uint8_t *, uint64_t, uint32_t *, uint64_t, int32_t, uint32_t *, uint64_t, uint32_t *);
+    uint32_t (*run)(uint32_t *, uint64_t, int32_t, int32_t, int32_t, uint32_t, uint32_t, uint32_t *, uint64_t,
+                    uint32_t *);
+    uint32_t (*carry_on)(uint32_t *, uint64_t, int32_t, int32_t, int32_t, uint32_t, uint32_t, uint32_t, uint32_t,
+                         uint32_t *, uint64_t, uint32_t *);
+    uint32_t (*export_index)(const uint8_t *, uint64_t, const uint8_t *, uint64_t, uint32_t *);
+    void (*export_name)(const uint8_t *, uint64_t, uint32_t, uint64_t *);
+    void (*sha256)(const uint8_t *, uint64_t, uint8_t *);
     /* Plain C alone: the tests that a run and a carry-on of the archive begin with. */
     int (*sound)(const uint32_t *, uint32_t);
-    int (*jobs_sound)(const uint32_t *, size_t, uint32_t, uint32_t);
+    int (*jobs_sound)(const uint32_t *, uint64_t, uint32_t, uint32_t);
 };
 
 extern const struct side plain_c, plain_c_clang;

@@ -1,299 +1,231 @@
-#include "stack.h"
+/*
+ * The stack that each call takes, as the first call of a process: stack FILE WAY
+ *
+ * FILE has the inputs (stack_inputs.c), WAY is how this program is linked: now, lazy or static. A process of its own makes each call
+ * on a painted stack, then on the stack of a thread. With lazy binding the first call of memset or memcpy goes through the loader, on the
+ * same stack; so nothing here may call these two before the archive does, and the inputs come from another program. The status is 1
+ * where a call takes more than arboricx.h says.
+ */
+#define _GNU_SOURCE
 
-#include <stdint.h>
+#include <fcntl.h>
+#include <pthread.h>
 #include <stdio.h>
+#include <stdlib.h>
 #include <string.h>
 #include <sys/mman.h>
+#include <sys/wait.h>
 #include <ucontext.h>
+#include <unistd.h>
 
-#include "plain_run.h"
-#include "reference.h"
+#include "stack_inputs.h"
 
-enum {
-    STACK_BYTES = 2 * ARBORICX_PLAIN_STACK,
-    PAINT = 0xa5,
-    LOAD_AIM = 16 * 1024,
-    RUN_AIM = 1024,
-    TABLE_WORDS = ARBORICX_SLOT_WORDS * ARBORICX_MAX_NODES
-};
+enum { PAINT = 0xa5, PAINTED = 2 * ARBORICX_PLAIN_STACK, WORDS = ARBORICX_SLOT_WORDS * ARBORICX_MAX_NODES };
 
-/* A call as it is entered on the painted stack: one of the pointers below is used, with this as its input. */
-struct call {
-    const struct bundle *bundle;
-    const struct workload *workload;
-    uint32_t (*load)(const uint8_t *, size_t, uint32_t *, size_t, int32_t, uint32_t *, size_t, uint32_t *);
-    uint32_t (*run)(uint32_t *, size_t, int32_t, int32_t, int32_t, uint32_t, uint32_t, uint32_t *, size_t, uint32_t *);
-    uint32_t (*carry_on)(uint32_t *, size_t, int32_t, int32_t, int32_t, uint32_t, uint32_t, uint32_t, uint32_t,
-                         uint32_t *, size_t, uint32_t *);
-    uint32_t (*plain_engine)(uint32_t *, size_t, int32_t, int32_t, int32_t, uint32_t, uint32_t, uint32_t, uint32_t *);
-    uint32_t (*check)(const uint8_t *, size_t);
-    uint32_t (*index)(const uint8_t *, size_t, const uint8_t *, size_t, uint32_t *);
-    void (*name)(const uint8_t *, size_t, uint32_t, size_t *);
-    void (*sha256)(const uint8_t *, size_t, uint8_t *);
-    void *(*fill)(void *, int, size_t);
-    void *(*copy)(void *, const void *, size_t);
-};
+static struct stack_inputs *in;
+static uint32_t words[WORDS], exports[ARBORICX_MAX_EXPORTS], jobs[ARBORICX_JOB_WORDS * ARBORICX_MAX_JOBS];
+static uint32_t answer[ARBORICX_RUN_ANSWER];
+static int which; /* of the runs, or of the chains */
 
-static uint32_t table[TABLE_WORDS];
-static uint32_t exports[ARBORICX_MAX_EXPORTS];
-static ucontext_t outside, inside;
-static void (*entered)(const struct call *);
-static const struct call *entered_call;
+/* ---- The calls */
 
-/* ---- Empty functions of each shape: what they need is the share of the one who calls. */
-
-static uint32_t no_load(const uint8_t *file, size_t file_len, uint32_t *words, size_t words_len, int32_t base,
-                        uint32_t *slots, size_t slots_len, uint32_t *answer)
+static void nothing(void)
 {
-    (void)file, (void)file_len, (void)words, (void)words_len, (void)base, (void)slots, (void)slots_len, (void)answer;
-    return 0;
 }
 
-static uint32_t no_run(uint32_t *words, size_t words_len, int32_t base, int32_t f, int32_t x, uint32_t used,
-                       uint32_t fuel, uint32_t *jobs, size_t jobs_len, uint32_t *answer)
+static void check(void)
 {
-    (void)words, (void)words_len, (void)base, (void)f, (void)x, (void)used, (void)fuel, (void)jobs, (void)jobs_len;
-    (void)answer;
-    return 0;
+    arboricx_check(in->bundle.bytes, in->bundle.len);
 }
 
-static uint32_t no_carry_on(uint32_t *words, size_t words_len, int32_t base, int32_t f, int32_t x, uint32_t used,
-                            uint32_t waiting, uint32_t steps, uint32_t fuel, uint32_t *jobs, size_t jobs_len,
-                            uint32_t *answer)
+static void load(void)
 {
-    (void)waiting, (void)steps;
-    return no_run(words, words_len, base, f, x, used, fuel, jobs, jobs_len, answer);
+    arboricx_load(in->bundle.bytes, in->bundle.len, words, WORDS, 0, exports, ARBORICX_MAX_EXPORTS, answer);
 }
 
-static uint32_t no_plain_engine(uint32_t *words, size_t words_len, int32_t base, int32_t f, int32_t x, uint32_t used,
-                                uint32_t fuel, uint32_t job_room, uint32_t *answer)
+static void run(void)
 {
-    (void)words, (void)words_len, (void)base, (void)f, (void)x, (void)used, (void)fuel, (void)job_room, (void)answer;
-    return 0;
-}
-
-static uint32_t no_check(const uint8_t *file, size_t file_len)
-{
-    (void)file, (void)file_len;
-    return 0;
-}
-
-static uint32_t no_index(const uint8_t *file, size_t file_len, const uint8_t *name, size_t name_len, uint32_t *answer)
-{
-    (void)file, (void)file_len, (void)name, (void)name_len, (void)answer;
-    return 0;
-}
-
-static void no_name(const uint8_t *file, size_t file_len, uint32_t index, size_t *answer)
-{
-    (void)file, (void)file_len, (void)index, (void)answer;
-}
-
-static void no_sha256(const uint8_t *bytes, size_t bytes_len, uint8_t *digest)
-{
-    (void)bytes, (void)bytes_len, (void)digest;
-}
-
-static void *no_fill(void *to, int value, size_t len)
-{
-    (void)value, (void)len;
-    return to;
-}
-
-static void *no_copy(void *to, const void *from, size_t len)
-{
-    (void)from, (void)len;
-    return to;
-}
-
-static const struct call empty = {
-    .load = no_load, .run = no_run, .carry_on = no_carry_on, .plain_engine = no_plain_engine, .check = no_check,
-    .index = no_index, .name = no_name, .sha256 = no_sha256, .fill = no_fill, .copy = no_copy,
-};
-
-/* ---- What runs on the painted stack. */
-
-static void enter_load(const struct call *c)
-{
-    static uint32_t answer[ARBORICX_LOAD_ANSWER];
-    c->load(c->bundle->bytes, c->bundle->len, table, TABLE_WORDS, 0, exports, ARBORICX_MAX_EXPORTS, answer);
-}
-
-static void enter_run(const struct call *c)
-{
-    static uint32_t answer[ARBORICX_RUN_ANSWER];
-    const struct workload *w = c->workload;
-    c->run(w->words, WORKLOAD_WORDS, 0, w->f, w->x, w->used, w->fuel, w->jobs, w->jobs_len, answer);
+    struct stack_table *const t = &in->runs[which];
+    arboricx_run(t->words, WORKLOAD_WORDS, 0, t->f, t->x, t->used, t->fuel, jobs, t->jobs_len, answer);
 }
 
 /* From the start, with no job waiting. */
-static void enter_carry_on(const struct call *c)
+static void carry_on(void)
 {
-    static uint32_t answer[ARBORICX_RUN_ANSWER];
-    const struct workload *w = c->workload;
-    c->carry_on(w->words, WORKLOAD_WORDS, 0, w->f, w->x, w->used, 0, 0, w->fuel, w->jobs, w->jobs_len, answer);
+    struct stack_table *const t = &in->runs[which];
+    arboricx_carry_on(t->words, WORKLOAD_WORDS, 0, t->f, t->x, t->used, 0, 0, t->fuel, jobs, t->jobs_len, answer);
 }
 
-static void enter_plain_engine(const struct call *c)
+static void plain_run(void)
 {
-    static uint32_t answer[ARBORICX_PLAIN_ANSWER];
-    const struct workload *w = c->workload;
-    const uint32_t job_room = (uint32_t)(w->jobs_len / ARBORICX_JOB_WORDS);
-    c->plain_engine(w->words, WORKLOAD_WORDS, 0, w->f, w->x, w->used, w->fuel, job_room, answer);
+    struct stack_table *const t = &in->chains[which];
+    arboricx_plain_run(t->words, WORKLOAD_WORDS, 0, t->f, t->x, t->used, t->fuel, t->jobs_len / ARBORICX_JOB_WORDS, answer);
 }
 
-static void enter_check(const struct call *c)
+static void export_index(void)
 {
-    c->check(c->bundle->bytes, c->bundle->len);
+    static const uint8_t none[4] = {'n', 'o', 'n', 'e'};
+    arboricx_export_index(in->bundle.bytes, in->bundle.len, none, sizeof none, answer);
 }
 
-static void enter_index(const struct call *c)
+static void export_name(void)
 {
-    static uint32_t answer[ARBORICX_INDEX_ANSWER];
-    static const uint8_t name[4] = {'m', 'a', 'i', 'n'};
-    c->index(c->bundle->bytes, c->bundle->len, name, sizeof name, answer);
+    static uint64_t name[ARBORICX_NAME_ANSWER];
+    arboricx_export_name(in->bundle.bytes, in->bundle.len, ARBORICX_MAX_EXPORTS - 1, name);
 }
 
-static void enter_name(const struct call *c)
-{
-    static size_t answer[ARBORICX_NAME_ANSWER];
-    c->name(c->bundle->bytes, c->bundle->len, 0, answer);
-}
-
-static void enter_sha256(const struct call *c)
+static void sha256(void)
 {
     static uint8_t digest[ARBORICX_DIGEST_BYTES];
-    c->sha256(c->bundle->bytes, c->bundle->len, digest);
+    arboricx_sha256(in->bundle.bytes, in->bundle.len, digest);
 }
 
-static void enter_fill(const struct call *c)
+/* ---- Measuring */
+
+static void give_up(const char *what)
 {
-    c->fill(table, 0, sizeof table);
+    perror(what);
+    exit(2);
 }
 
-static void enter_copy(const struct call *c)
+/* Memory in paint, after a page that may not be touched. */
+static uint8_t *painted(size_t bytes)
 {
-    c->copy(table, c->bundle->bytes, sizeof exports);
+    const size_t page = (size_t)sysconf(_SC_PAGESIZE);
+    uint8_t *const map = mmap(NULL, page + bytes, PROT_READ | PROT_WRITE, MAP_PRIVATE | MAP_ANONYMOUS, -1, 0);
+    if (map == MAP_FAILED || mprotect(map, page, PROT_NONE) != 0) give_up("a painted stack");
+    for (volatile uint8_t *p = map + page; p < map + page + bytes; p++) *p = PAINT;
+    return map + page;
 }
 
-/* makecontext hands on integers only, so the call comes by way of two variables. */
+static uint8_t *own; /* the painted stack, the call that is made on it, and how much of it stays clean */
+static void (*made)(void);
+static size_t clean;
+
+/* Counts before the painted stack is left, as that may write deeper than a call does. */
 static void enter(void)
 {
-    entered(entered_call);
+    made();
+    for (clean = 0; clean < PAINTED && own[clean] == PAINT; clean++) continue;
 }
 
-/* The bytes of a painted stack down to the deepest one that was written; 0 where no stack was to be had. */
-static size_t depth(void (*what)(const struct call *), const struct call *call)
+static size_t on_painted(void (*call)(void))
 {
-    size_t clean = 0;
-    uint8_t *stack = mmap(NULL, STACK_BYTES, PROT_READ | PROT_WRITE, MAP_PRIVATE | MAP_ANONYMOUS, -1, 0);
-    if (stack == MAP_FAILED) return 0;
-    memset(stack, PAINT, STACK_BYTES);
-    entered = what;
-    entered_call = call;
+    static ucontext_t outside, inside;
+    own = painted(PAINTED);
+    made = call;
     getcontext(&inside);
-    inside.uc_stack.ss_sp = stack;
-    inside.uc_stack.ss_size = STACK_BYTES;
+    inside.uc_stack.ss_sp = own;
+    inside.uc_stack.ss_size = PAINTED;
     inside.uc_link = &outside;
     makecontext(&inside, enter, 0);
     swapcontext(&outside, &inside);
-    while (clean < STACK_BYTES && stack[clean] == PAINT) clean++;
-    munmap(stack, STACK_BYTES);
-    return STACK_BYTES - clean;
+    return PAINTED - clean;
 }
 
-/* What a call needs beyond the empty function of the same shape, called the same way on the same input. */
-static size_t need(void (*what)(const struct call *), struct call call)
+/* What the call takes beside an empty function that is entered the same way. */
+static size_t taken(void (*call)(void), size_t limit)
 {
-    struct call baseline = empty;
-    baseline.bundle = call.bundle;
-    baseline.workload = call.workload;
-    return depth(what, &call) - depth(what, &baseline);
+    (void)limit;
+    const size_t empty = on_painted(nothing);
+    return on_painted(call) - empty;
 }
 
-/* ---- The rows. */
-
-static void row(const char *call, const char *input, size_t archive, size_t plain, size_t aim)
+static void *in_thread(void *unused)
 {
-    printf("| %s%s | %zu bytes |", call, input, archive);
-    if (plain != 0) printf(" %zu bytes |", plain);
-    else printf(" |");
-    if (aim != 0) printf(" at most %zu |\n", aim);
-    else printf(" |\n");
+    made();
+    return unused;
 }
 
-static void load_row(const struct bundle *b)
+/* All that a thread writes of a stack with so many bytes: what the C library keeps there, the loader, its own frames, the call. */
+static size_t of_thread(void (*call)(void), size_t limit)
 {
-    char input[32];
-    snprintf(input, sizeof input, ", nodes: %u", (unsigned)b->nodes);
-    row("load", input, need(enter_load, (struct call){.bundle = b, .load = arboricx_load}),
-        need(enter_load, (struct call){.bundle = b, .load = reference_load}), LOAD_AIM);
+    const size_t page = (size_t)sysconf(_SC_PAGESIZE), least = (size_t)sysconf(_SC_THREAD_STACK_MIN);
+    const size_t wanted = limit < least ? least : limit, bytes = (wanted + page - 1) / page * page;
+    uint8_t *const stack = painted(bytes);
+    pthread_attr_t attributes;
+    pthread_t thread;
+    pthread_attr_init(&attributes);
+    if (pthread_attr_setstack(&attributes, stack, bytes) != 0) give_up("the stack of a thread");
+    made = call;
+    if (pthread_create(&thread, &attributes, in_thread, NULL) != 0) give_up("a thread");
+    pthread_join(thread, NULL);
+    for (clean = 0; clean < bytes && stack[clean] == PAINT; clean++) continue;
+    return bytes - clean;
 }
 
-static void run_row(const struct workload *w)
+/* A measure, made in a process of its own. 0 where that process crashed. */
+static size_t first(size_t (*measure)(void (*)(void), size_t), void (*call)(void), size_t limit)
 {
-    char input[64];
-    snprintf(input, sizeof input, ", %s", w->name);
-    row("run", input, need(enter_run, (struct call){.workload = w, .run = arboricx_run}),
-        need(enter_run, (struct call){.workload = w, .run = plain_run}), RUN_AIM);
+    size_t *const told = mmap(NULL, sizeof *told, PROT_READ | PROT_WRITE, MAP_SHARED | MAP_ANONYMOUS, -1, 0);
+    if (told == MAP_FAILED) give_up("mmap");
+    const pid_t child = fork();
+    if (child == 0) {
+        *told = measure(call, limit);
+        _exit(0);
+    }
+    int status;
+    if (child < 0 || waitpid(child, &status, 0) < 0) give_up("fork");
+    const size_t bytes = status == 0 ? *told : 0;
+    munmap(told, sizeof *told);
+    return bytes;
 }
 
-/* A job table that is not zero would be refused. */
-static size_t carry_on_need(const struct workload *w, struct call call)
+/* ---- The rows */
+
+struct row {
+    const char *name;
+    void (*call)(void);
+    int inputs;
+    size_t limit;
+};
+
+static const struct row rows[] = {
+    {"arboricx_load", load, 1, ARBORICX_STACK},
+    {"arboricx_check", check, 1, ARBORICX_STACK},
+    {"arboricx_run", run, WORKLOADS, ARBORICX_RUN_STACK},
+    {"arboricx_carry_on", carry_on, WORKLOADS, ARBORICX_RUN_STACK},
+    {"arboricx_export_index", export_index, 1, ARBORICX_STACK},
+    {"arboricx_export_name", export_name, 1, ARBORICX_STACK},
+    {"arboricx_sha256", sha256, 1, ARBORICX_STACK},
+    {"arboricx_plain_run", plain_run, CHAINS, ARBORICX_PLAIN_STACK},
+    {"nothing", nothing, 1, 0},
+};
+
+/* The most that a call takes on any of its inputs; 0 where one crashed. */
+static size_t most(const struct row *row, size_t (*measure)(void (*)(void), size_t), size_t limit)
 {
-    memset(w->jobs, 0, w->jobs_len * sizeof *w->jobs);
-    call.workload = w;
-    return need(enter_carry_on, call);
+    size_t bytes = 0;
+    for (which = 0; which < row->inputs; which++) {
+        const size_t taken_here = first(measure, row->call, limit);
+        if (taken_here == 0 && row->call != nothing) return 0;
+        if (bytes < taken_here) bytes = taken_here;
+    }
+    return bytes;
 }
 
-static void carry_on_row(const struct workload *w)
+/* Whether the header's word is kept. With lazy binding a run may take what a thread has beside it. */
+static int print_row(const struct row *row, int lazy)
 {
-    char input[64];
-    snprintf(input, sizeof input, ", %s", w->name);
-    row("carry_on", input, carry_on_need(w, (struct call){.carry_on = arboricx_carry_on}),
-        carry_on_need(w, (struct call){.carry_on = plain_carry_on}), RUN_AIM);
+    const size_t room = row->limit + ARBORICX_THREAD_EXTRA, bytes = most(row, taken, 0), whole = most(row, of_thread, room);
+    const size_t limit = lazy && row->limit == ARBORICX_RUN_STACK ? room : row->limit;
+    const int kept = bytes <= limit && (bytes > 0 || row->call == nothing) && whole > 0;
+    printf("| `%s` | %zu | %zu | %zu | %zu |%s\n", row->name, bytes, row->limit, whole, room, kept ? "" : " NOT KEPT");
+    return kept;
 }
 
-static size_t plain_engine_need(const struct workload *w)
+int main(int argc, char **argv)
 {
-    return need(enter_plain_engine, (struct call){.workload = w, .plain_engine = arboricx_plain_run});
-}
-
-static void plain_engine_row(const struct workload *w)
-{
-    const struct workload sized = plain_sized(*w);
-    char input[64];
-    snprintf(input, sizeof input, ", %s, %u steps", w->name, (unsigned)sized.fuel);
-    row("plain_run", input, plain_engine_need(&sized), 0, ARBORICX_PLAIN_STACK);
-}
-
-/* A chain goes a level deeper at each step. How deep that is the run call tells: its steps, and the jobs that wait. */
-static void chain_row(const struct workload *w)
-{
-    uint32_t answer[ARBORICX_RUN_ANSWER];
-    arboricx_run(w->words, WORKLOAD_WORDS, 0, w->f, w->x, w->used, w->fuel, w->jobs, w->jobs_len, answer);
-    const size_t bytes = plain_engine_need(w);
-    printf("| plain_run, %s: %u steps, %u jobs waiting |", w->name, (unsigned)answer[ARBORICX_RUN_STEPS],
-           (unsigned)answer[ARBORICX_RUN_JOBS]);
-    printf(" %zu bytes, %.1f a level | | at most %d |\n", bytes, (double)bytes / answer[ARBORICX_RUN_STEPS],
-           ARBORICX_PLAIN_STACK);
-}
-
-void print_stack_table(const struct bundle *bundles, size_t bundle_count, const struct workload workloads[WORKLOADS],
-                       const struct workload chains[CHAINS])
-{
-    const struct bundle *const last = &bundles[bundle_count - 1];
-    printf("\n| Stack | Archive | Plain C | Aim |\n|---|---|---|---|\n");
-    for (size_t i = 0; i < bundle_count; i++) load_row(&bundles[i]);
-    for (int i = 0; i < WORKLOADS; i++) run_row(&workloads[i]);
-    for (int i = 0; i < WORKLOADS; i++) carry_on_row(&workloads[i]);
-    for (int i = 0; i < WORKLOADS; i++) plain_engine_row(&workloads[i]);
-    for (int i = 0; i < CHAINS; i++) chain_row(&chains[i]);
-    row("check", "", need(enter_check, (struct call){.bundle = last, .check = arboricx_check}), 0, 0);
-    row("export_index", "", need(enter_index, (struct call){.bundle = last, .index = arboricx_export_index}), 0, 0);
-    row("export_name", "", need(enter_name, (struct call){.bundle = last, .name = arboricx_export_name}), 0, 0);
-    row("sha256", "", need(enter_sha256, (struct call){.bundle = last, .sha256 = arboricx_sha256}),
-        need(enter_sha256, (struct call){.bundle = last, .sha256 = reference_sha256}), 0);
-    row("memset by itself", "", need(enter_fill, (struct call){.bundle = last, .fill = memset}), 0, 0);
-    row("memcpy by itself", "", need(enter_copy, (struct call){.bundle = last, .copy = memcpy}), 0, 0);
+    const int file = argc == 3 ? open(argv[1], O_RDONLY) : -1;
+    int kept = 1;
+    if (file < 0) {
+        fprintf(stderr, "usage: stack FILE now|lazy|static, with what stack-inputs wrote\n");
+        return 2;
+    }
+    in = mmap(NULL, sizeof *in, PROT_READ | PROT_WRITE, MAP_PRIVATE, file, 0);
+    if (in == MAP_FAILED) give_up(argv[1]);
+    printf("| First call of a process, linked %s | Stack | At most | Of a thread in all | Which has at least |\n|---|---|---|---|---|\n", argv[2]);
+    fflush(stdout);
+    for (size_t i = 0; i < sizeof rows / sizeof *rows; i++) kept &= print_row(&rows[i], strcmp(argv[2], "lazy") == 0);
+    return !kept;
 }
