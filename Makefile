@@ -1,15 +1,26 @@
-# What is for C, and the tests. The Rattle kit proves and builds the archive; the rest needs a C compiler, and Python for tests/*.py and fixtures/.
+# What is for C, and the tests. The Rattle kit (rt) proves and builds the archives; the rest needs a C compiler, Python for tests/*.py
+# and fixtures/, and an archive that is there.
 #
-#   make            the archive, target/staticlib/libarboricx.a: a few minutes the first time, then only where something changed
-#   make host       target/c/play, which plays an opponent out of a bundle
-#   make test       the outside tests, as the gate runs them: under two minutes
+#   make            the archive for x86-64, target/staticlib/libarboricx.a, where something changed: a few minutes the first time
+#   make archives   the archives for x86-64, AArch64 and 32-bit ARM, and WebAssembly, in target/archives: half a minute more
+#   make dist       all that a team needs, with no kit, in target/dist/arboricx-VERSION.tar
+#   make host       target/c/arboricx, the tool: checks, lists and plays bundles
+#   make test       the outside tests, as the gate runs them: about two minutes
 #   make test-full  250,000 cases, and 50,000 with sanitizers; SEED=2 for others
+#   make test-arm   the outside tests on AArch64 and 32-bit ARM, by cross compilers and qemu-user
+#   make test-wasm  recorded calls made again on WebAssembly, by node
+#   make stack      the stack that each call takes, linked in each way
+#   make bench      the archive beside plain C, by $(CC) and by clang; ROUNDS=5 for a quick look
 #   make index      docs/GUARANTEES.md against the tree
 #   make believe    docs/TRUST.md against the definitions that a reader has to believe
-#   make bench      the archive beside plain C, by $(CC) and by clang; ROUNDS=5 for a quick look
+#
+# Only `make`, `make archives` and `make dist` prove anything anew. The others take the archive that is there, by ARCHIVE=PATH another one, and build it only
+# where there is none.
 
 OUT = target/c
-ARCHIVE = target/staticlib/libarboricx.a
+BUILT = target/staticlib/libarboricx.a
+ARCHIVE = $(BUILT)
+ARCHIVES = target/archives
 PROGRAM = target/bin/check_bundle
 SEED = 1
 ROUNDS = 61
@@ -17,14 +28,15 @@ STRICT = -Wall -Wextra -Wpedantic -Iinclude -Itests
 CFLAGS = -std=c11 -O2 $(STRICT)
 SANITIZE = -std=c11 -O1 -g -fsanitize=address,undefined -fno-sanitize-recover=all $(STRICT)
 TESTS = $(wildcard tests/*.c)
-BENCH = $(wildcard bench/*.c) tests/reference.c
+BENCH = bench/bench.c bench/bench_bundles.c bench/plain_c.c bench/plain_run.c bench/program.c bench/race.c bench/workloads.c tests/reference.c
 PLAIN_C = bench/plain_c.c bench/plain_run.c tests/reference.c
 CLANG := $(shell command -v clang)
+KIT := $(shell command -v rt)
 HEADERS = $(wildcard include/*.h tests/*.h bench/*.h)
 
-.PHONY: archive host test test-full index believe header example played faults fixtures bench
-.DEFAULT_GOAL = $(ARCHIVE)
-archive: $(ARCHIVE)
+.PHONY: archive archives dist host older test test-full test-arm test-wasm index believe header example tool faults fixtures packed stack stacked bench
+.DEFAULT_GOAL = archive
+.NOTPARALLEL:
 
 # ---- what the kit proves and builds
 
@@ -42,41 +54,79 @@ PROGRAM_CRATES := $(call crates_of,check_bundle)
 # where one fails.
 show_proving = { { $(1); } && echo all proved; } 2>&1 | tee $(2) | sed -un '/unchanged since/d; s/^rt: //p'; \
     [ "$$(tail -n 1 $(2))" = 'all proved' ] || { cat $(2); exit 1; }
+need_kit = $(if $(KIT),,{ echo '$(1), and building it needs the Rattle kit: rt is not on the path.'; exit 1; })
+
+# When it was last built: an archive that is there has no rule to be made anew by, so that nothing but this waits for a proof.
+BUILD = $(OUT)/archive.built
+archive: $(BUILD)
 
 # The crates below it first: rt check proves as many at a time as there are processors, rt staticlib one after the other.
-$(ARCHIVE): $(call sources,$(ARCHIVE_CRATES))
+$(BUILD): $(call sources,$(ARCHIVE_CRATES))
+	@$(call need_kit,The sources changed since the archive was built)
 	@mkdir -p $(OUT)
 	@echo 'Proving $(words $(ARCHIVE_CRATES)) crates for the archive: a few minutes the first time, later only those that changed.'
 	@$(call show_proving,rt check $(filter-out arboricx,$(ARCHIVE_CRATES)) && echo 'rt: arboricx and the archive' && rt staticlib arboricx,$(OUT)/archive.log)
+	@touch $@
 
-# Not at the same time as the archive: both are built in target/.
-$(PROGRAM): $(call sources,$(PROGRAM_CRATES)) | $(ARCHIVE)
+$(BUILT):
+	@$(call need_kit,There is no archive at $@)
+	@rm -f $(BUILD)
+	@$(MAKE) --no-print-directory archive
+
+# The program check_bundle, in the same way. Not at the same time as the archive: both are built in target/.
+$(PROGRAM): | $(ARCHIVE)
+	@$(call need_kit,There is no program at $@)
 	@echo 'Proving $(words $(PROGRAM_CRATES)) crates for the program check_bundle: those of the archive are proved.'
-	@$(call show_proving,rt check check_bundle && touch $@,$(OUT)/program.log)
+	@$(call show_proving,rt check check_bundle,$(OUT)/program.log)
+
+# ---- for other processors, and for those who have no kit
+
+archives: archive
+	packaging/archives.sh $(ARCHIVES)
+
+dist: archives
+	packaging/dist.sh $(ARCHIVES) target/dist
+
+# The last of them that is built; these too have no rule to be made anew by.
+LAST = $(ARCHIVES)/wasm32/arboricx.wasm
+$(LAST):
+	@$(call need_kit,There are no archives in $(ARCHIVES))
+	@$(MAKE) --no-print-directory archives
 
 # ---- the host
 
-host: $(OUT)/play
+host: older $(OUT)/arboricx
 
-$(OUT)/play: host/play.c $(HEADERS) $(ARCHIVE)
-	$(CC) $(CFLAGS) -Wconversion $< $(ARCHIVE) -o $@
+$(OUT)/arboricx: host/arboricx.c $(HEADERS) $(ARCHIVE)
+	@mkdir -p $(OUT)
+	$(CC) $(CFLAGS) -Wconversion -Werror $< $(ARCHIVE) -Wl,-z,now -o $@
+
+# Says so where the archive that is used is not that of the sources.
+older: $(ARCHIVE)
+	@[ $(ARCHIVE) != $(BUILT) ] || [ -z "$$(find crates.txt $(patsubst %,crates/%,$(ARCHIVE_CRATES)) -path '*/must-fail' -prune -o -newer $(BUILT) -print | head -n 1)" ] \
+	    || echo 'Note: the archive that is used is older than its sources. `make` builds it anew.'
 
 # ---- the outside tests
 
 $(OUT)/compare: $(TESTS) $(HEADERS) $(ARCHIVE)
+	@mkdir -p $(OUT)
 	$(CC) $(CFLAGS) $(TESTS) $(ARCHIVE) -o $@
 
 $(OUT)/compare-sanitized: $(TESTS) $(HEADERS) $(ARCHIVE)
+	@mkdir -p $(OUT)
 	$(CC) $(SANITIZE) $(TESTS) $(ARCHIVE) -o $@
 
 $(OUT)/compare-faults: $(TESTS) $(HEADERS) $(ARCHIVE)
+	@mkdir -p $(OUT)
 	$(CC) $(CFLAGS) -DREFERENCE_FAULTS $(TESTS) $(ARCHIVE) -o $@
 
-test: index believe header example played faults fixtures $(OUT)/compare $(OUT)/compare-sanitized
+ALL = older index believe header example tool packed stacked faults fixtures $(OUT)/compare $(OUT)/compare-sanitized
+
+test: $(ALL)
 	$(OUT)/compare --seed $(SEED) --count 40000
 	$(OUT)/compare-sanitized --seed $(SEED) --count 8000
 
-test-full: index believe header example played faults fixtures $(OUT)/compare $(OUT)/compare-sanitized
+test-full: $(ALL)
 	$(OUT)/compare --seed $(SEED) --count 250000 --zeros 1
 	$(OUT)/compare-sanitized --seed $(SEED) --count 50000
 
@@ -92,16 +142,17 @@ believe:
 header: $(ARCHIVE)
 	python3 tests/header.py $(ARCHIVE)
 
-# The example of README.md builds and runs.
+# The example is the one of README.md, builds, and says what it is to say.
 example: $(ARCHIVE)
 	sh tests/example.sh $(ARCHIVE) $(OUT)/example
 
-# The host plays the sample bundle as expected, and tells where a wrong plain engine differs.
-$(OUT)/play-wrong: tests/host/play_wrong.c host/play.c $(HEADERS) $(ARCHIVE)
+# The tool says what it is to say of sound, refused, missing and unreadable files, and tells where a wrong archive differs.
+$(OUT)/arboricx-wrong: tests/host/tool_wrong.c host/arboricx.c $(HEADERS) $(ARCHIVE)
+	@mkdir -p $(OUT)
 	$(CC) $(CFLAGS) $< $(ARCHIVE) -o $@
 
-played: $(OUT)/play $(OUT)/play-wrong
-	sh tests/play.sh $(OUT)/play $(OUT)/play-wrong
+tool: $(OUT)/arboricx $(OUT)/arboricx-wrong
+	sh tests/tool.sh $(OUT)/arboricx $(OUT)/arboricx-wrong
 
 # A reference that is wrong in one way is found out; each way is tried.
 faults: $(OUT)/compare-faults
@@ -111,9 +162,43 @@ faults: $(OUT)/compare-faults
 fixtures:
 	sh tests/fixtures.sh $(OUT)/fixtures
 
+# What `make dist` packs, out of the archives that are there, is whole and builds where there is no kit.
+packed: $(if $(KIT),$(LAST))
+	@if [ -e $(LAST) ]; then packaging/dist.sh $(ARCHIVES) $(OUT)/dist && sh tests/dist.sh $(OUT)/dist; \
+	    else echo 'There are no archives here, and no kit to build them: what make dist packs is not tried.'; fi
+
+# On other processors, with the archives that are there.
+test-arm:
+	sh tests/arm.sh $(ARCHIVES) $(OUT)/arm $(SEED)
+
+test-wasm: $(OUT)/compare
+	sh tests/wasm.sh $(ARCHIVES)/wasm32/arboricx.wasm $(OUT)/compare $(OUT)/wasm.record $(SEED)
+
+# ---- the stack: a program that only measures, so that the archive's first call of memset is the first of the process
+
+$(OUT)/stack-inputs: bench/stack_inputs.c bench/bench_bundles.c bench/workloads.c tests/reference.c $(HEADERS) $(ARCHIVE)
+	@mkdir -p $(OUT)
+	$(CC) $(CFLAGS) -D_DEFAULT_SOURCE $(filter %.c,$^) $(ARCHIVE) -o $@
+
+$(OUT)/stack.inputs: $(OUT)/stack-inputs
+	$< $@
+
+$(OUT)/stack-%: bench/stack.c $(HEADERS) $(ARCHIVE)
+	$(CC) $(CFLAGS) $< $(ARCHIVE) -pthread $(if $(filter static,$*),-static,-Wl,-z,$*) -o $@
+
+# Static only where there is a C library for it.
+WAYS := now lazy $(shell echo 'int main(void) { return 0; }' | $(CC) -static -x c - -o /dev/null 2>/dev/null && echo static)
+stack: older $(OUT)/stack.inputs $(patsubst %,$(OUT)/stack-%,$(WAYS))
+	@for way in $(WAYS); do $(OUT)/stack-$$way $(OUT)/stack.inputs $$way || exit 1; echo; done
+
+stacked: $(OUT)/stack.inputs $(patsubst %,$(OUT)/stack-%,$(WAYS))
+	@for way in $(WAYS); do $(OUT)/stack-$$way $(OUT)/stack.inputs $$way >$(OUT)/stack.txt || { cat $(OUT)/stack.txt; exit 1; }; done
+	@echo 'stack: each call keeps to what the header says, linked in each way'
+
 # ---- the bench
 
 $(OUT)/bench: $(BENCH) $(HEADERS) $(ARCHIVE) $(if $(CLANG),$(OUT)/plain_c_clang.o)
+	@mkdir -p $(OUT)
 	$(CC) $(CFLAGS) -D_DEFAULT_SOURCE -DFLAGS='"-O2"' $(if $(CLANG),-DBENCH_CLANG) $(BENCH) $(filter %.o,$^) $(ARCHIVE) -Wl,-z,now -o $@
 
 # Plain C once more, by clang at -O3: one object, of which only the table of its calls is seen.
@@ -122,7 +207,8 @@ $(OUT)/plain_c_clang.o: $(PLAIN_C) $(HEADERS)
 	$(CLANG) -std=c11 -O3 $(STRICT) -DFLAGS='"-O3"' -DTABLE=plain_c_clang -r -nostdlib $(PLAIN_C) -o $@
 	objcopy --keep-global-symbol=plain_c_clang $@
 
-bench: $(OUT)/bench $(PROGRAM)
+bench: older $(OUT)/bench $(if $(KIT),$(PROGRAM))
 	@$(if $(CLANG),,echo 'There is no clang here: its column is left out.')
-	$(OUT)/bench $(ROUNDS) $(PROGRAM)
+	@$(if $(KIT),,echo 'There is no kit here: the program check_bundle is left out.')
+	$(OUT)/bench $(ROUNDS) $(if $(KIT),$(PROGRAM))
 	sh bench/size.sh $(ARCHIVE)
