@@ -39,7 +39,7 @@ struct option_line {
 static const struct option_line options[OPTIONS] = {
     {"--fuel", 1, 1000, "steps that a turn may take"},
     {"--moves", 1, 20, "turns, at most"},
-    {"--plain", 0, 0, "on the plain engine, which takes at most 1,000 steps for a move"},
+    {"--plain", 0, 0, "on the plain engine"},
     {"--both", 0, 0, "on both engines; compare all numbers and words after a turn"},
     {"--help", 0, 0, "this text"},
 };
@@ -415,7 +415,7 @@ static int compare(const struct play *p, const uint32_t plain[ARBORICX_PLAIN_ANS
     return FINE;
 }
 
-/* A turn, on the engine or on both. Where the plain engine refuses a move as too long, its answer stands for both. */
+/* A turn, on the engine or on both. */
 static void think(struct play *p)
 {
     uint32_t plain[ARBORICX_PLAIN_ANSWER];
@@ -429,8 +429,7 @@ static void think(struct play *p)
     if (!p->options[PLAIN]) run_turn(p->last, p->options[FUEL]);
     if (!p->options[PLAIN] && !p->options[BOTH]) return;
     plain_turn(p, table, plain);
-    const int too_long = p->fuel > ARBORICX_MAX_PLAIN && plain[ARBORICX_PLAIN_NUMBER] == ARBORICX_TOO_DEEP;
-    if (p->options[PLAIN] || too_long) {
+    if (p->options[PLAIN]) {
         adopt(plain, p->last);
     } else {
         p->status = compare(p, plain);
@@ -452,15 +451,27 @@ static void print_turn(const struct play *p)
     printf("turn %" PRIu32 ": ", p->turn);
     if (number == ARBORICX_OK) print_tree(last[ARBORICX_RUN_SLOT], SHOWN_DEPTH);
     else if (number == ARBORICX_OUT_OF_FUEL) printf("thinks on");
-    else printf("lost by %" PRIu32, number);
+    else printf("lost by %" PRIu32 " (%s)", number, arboricx_number_text(number));
     printf(", steps %" PRIu32 ", slots used %" PRIu32, last[ARBORICX_RUN_STEPS], last[ARBORICX_RUN_USED]);
     if (!p->options[PLAIN]) printf(", jobs waiting %" PRIu32, last[ARBORICX_RUN_JOBS]);
     printf("\n");
 }
 
+/* Whether a move has had so much fuel that the plain engine, which begins it anew, would refuse the next turn. */
+static int too_long(const struct play *p)
+{
+    const int thinks_on = p->last[ARBORICX_RUN_NUMBER] == ARBORICX_OUT_OF_FUEL;
+    const uint32_t spent = thinks_on ? p->fuel : 0;
+    return (p->options[PLAIN] || p->options[BOTH]) && spent + p->options[FUEL] > ARBORICX_MAX_PLAIN;
+}
+
 /* Whether the play goes on after this turn. */
 static int take_turn(struct play *p)
 {
+    if (too_long(p)) {
+        printf("the next turn would pass the %d steps that the plain engine takes for a move\n", ARBORICX_MAX_PLAIN);
+        return 0;
+    }
     p->turn++;
     think(p);
     if (p->status != FINE) return 0;
@@ -482,12 +493,14 @@ static int take_turn(struct play *p)
 static int play_turns(const struct arguments *given, uint32_t slot, uint32_t used)
 {
     struct play p;
+    int goes_on = 1;
     memset(&p, 0, sizeof p);
     p.options = given->value;
     p.last[ARBORICX_RUN_SLOT] = slot;
     p.last[ARBORICX_RUN_USED] = used;
     memcpy(plain_words, words, sizeof words);
-    while (p.turn < given->value[MOVES] && take_turn(&p)) continue;
+    while (goes_on && p.turn < given->value[MOVES]) goes_on = take_turn(&p);
+    if (goes_on) printf("undecided\n");
     printf("the %d words before the base are untouched\n", BASE);
     if (given->value[BOTH]) printf("turns in which the engines agree: %" PRIu32 "\n", p.agreed);
     return p.status;
@@ -546,7 +559,9 @@ static const struct command commands[] = {
      "      move applies it to the leaf; what comes out is applied to the leaf at the\n"
      "      next move. A move that spends the fuel of a turn thinks on at the next\n"
      "      turn. One that comes out as the leaf has won. One that has no slot or no\n"
-     "      place for a job left has lost.\n"},
+     "      place for a job left, of 1,024 and 64, has lost. The plain engine begins a\n"
+     "      move that thinks on anew, and takes 1,000 steps for it: with it the play\n"
+     "      ends before a turn that would pass them.\n"},
     {"sha256", sha256, 0, INT_MAX, OPTION(HELP), "[FILE..]",
      "      The SHA-256 of each file, of whatever length, as sha256sum prints it.\n"},
 };
@@ -696,6 +711,8 @@ static int sort_arguments(const struct command *command, int argc, char **argv, 
     }
     if (given->value[HELP]) return FINE;
     if (given->value[PLAIN] && given->value[BOTH]) return misused(command, "--plain", "not with --both");
+    if ((given->value[PLAIN] || given->value[BOTH]) && given->value[FUEL] > ARBORICX_MAX_PLAIN)
+        return misused(command, "--fuel", "the plain engine takes at most 1,000 steps for a move");
     if (given->count > command->most) return misused(command, command->name, "too many arguments");
     if (given->count < command->least) return misused(command, command->name, "a FILE is missing");
     return FINE;

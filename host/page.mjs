@@ -1,12 +1,14 @@
 // Arboricx in a page: the tables of one match in the memory of arboricx.wasm, and moves on them. It works in node too; the caller
 // brings the bytes of the module and of a bundle:
 //
+//     import { open } from "./page.mjs";
 //     const bytes = async (path) => new Uint8Array(await (await fetch(path)).arrayBuffer()); // node: fs.promises.readFile
-//     const match = await open(await bytes("arboricx.wasm"));
+//     const match = await open(await bytes("../lib/wasm32/arboricx.wasm"));
 //     const loaded = match.load(await bytes("opponents.arboricx"));
 //     if (loaded.number === 0) console.log(match.move(loaded.exports[0], 0, loaded.nodes, 1000));
 //
-// Numbers, slots, fuel and used counts are those of include/arboricx.h. Each match has a memory of its own.
+// Numbers, slots, fuel and used counts are those of include/arboricx.h, and what is no such number throws a RangeError. Each match has a
+// memory of its own, with room for SLOTS slots and JOBS jobs: 32 and 33 say that they do not do.
 
 const MAX_FILE = 65536, MAX_EXPORTS = 32, SLOT_WORDS = 2, JOB_WORDS = 3, SLOTS = 4096, JOBS = 1024, BASE = 0;
 const WORDS_LEN = BigInt(BASE + SLOT_WORDS * SLOTS), JOBS_LEN = BigInt(JOB_WORDS * JOBS), EXPORTS_LEN = BigInt(MAX_EXPORTS);
@@ -31,6 +33,10 @@ export async function open(wasm) {
         new Uint8Array(arboricx.memory.buffer).set(lent, file);
         return BigInt(lent.length); // lengths have 64 bits, which are BigInt here
     };
+    const whole = (...numbers) => {
+        for (const n of numbers) if (!Number.isInteger(n) || n < -(2 ** 31) || n >= 2 ** 32) throw new RangeError(`${n} is no number for a call`);
+        return numbers;
+    };
     const moved = ([number, slot, x, steps, used, jobs]) => ({ number, slot, x, steps, used, jobs });
 
     return {
@@ -48,11 +54,11 @@ export async function open(wasm) {
 
         // Slot f, the opponent, applied to slot x. 0: the result is in `slot`. 31: it thinks on, by carryOn.
         move(f, x, used, fuel) {
-            arboricx.arboricx_run(words, WORDS_LEN, BASE, f, x, used, fuel, jobs, JOBS_LEN, answer);
+            arboricx.arboricx_run(words, WORDS_LEN, BASE, ...whole(f, x, used, fuel), jobs, JOBS_LEN, answer);
             return moved(read(answer, 6));
         },
         carryOn(stop, fuel) {
-            arboricx.arboricx_carry_on(words, WORDS_LEN, BASE, stop.slot, stop.x, stop.used, stop.jobs, stop.steps, fuel,
+            arboricx.arboricx_carry_on(words, WORDS_LEN, BASE, ...whole(stop.slot, stop.x, stop.used, stop.jobs, stop.steps, fuel),
                 jobs, JOBS_LEN, answer);
             return moved(read(answer, 6));
         },

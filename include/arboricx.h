@@ -24,8 +24,8 @@
  *  - No pointer is null, also where its length is 0 (malloc(0) may give one), and each is aligned as its type asks.
  *  - What a call may write does not overlap with anything else that the same call is lent.
  *  - The memory that a pointer and its length name has at most SIZE_MAX / 2 bytes, as any object in C. Lengths count
- *    elements: bytes of a file, words of a table. They have 64 bits on every processor; one that is longer than the
- *    memory is a breach of the first duty, and no call can find it out.
+ *    elements: bytes of a file, words of a table. They have 64 bits on every processor, and a size_t fits; one that is
+ *    longer than the memory is a breach of the first duty, and no call can find it out.
  *
  * ---- The life of a match
  *
@@ -39,13 +39,16 @@
  *    move, add their fuel, or give slots back (5).
  *
  * 3. A move. arboricx_run applies slot f, the opponent, to slot x, what it is told: both are below the used count. Slot 0
- *    is always the leaf.
+ *    is always the leaf. To tell it another tree, write its slots yourself ("The lent tables"), from the used count on and
+ *    children first, and hand in the count after them; or make it by runs: slot 0 on a makes the stem on a, and that on b
+ *    the fork of a and b. A result is read by the same layout.
  *
  * 4. After it, by the number:
  *       0      done. The result is in the slot that was answered, and may be the f or x of a later run.
  *      31      the fuel is spent. Next turn, or next day, arboricx_carry_on goes on just there; or the move is given up.
- *      32, 33  no slot, or no place for a job, is left. Carry on with a longer table that has the same words, and zeros
- *              after the jobs; or the move is given up.
+ *      32, 33  no slot, or no place for a job, is left. Carry on with a longer table that begins with the same words, or
+ *              give the move up. New words of a word table may hold anything; those of a job table have to be 0. The
+ *              fuel that is left of the turn is what was handed in, less the steps that were taken with it.
  *      other   refused: nothing has changed, and the numbers handed in, or the table, are not what a call left. The used
  *              count is the one from before.
  *    To carry on is not to start anew: a run of the f and x that a stop answered works out that part alone, and forgets
@@ -53,7 +56,8 @@
  *
  * 5. Slots are given back by handing in an older used count: the slots from it on are free again, and nothing has to be
  *    cleared. No slot from it on may be named any more, as f, as x or in a job that waits. To give a move up, hand in the
- *    count from before it; with the node count of the load the table is as new.
+ *    count from before it; with the node count of the load the table is as new. To keep a result and free the rest, copy
+ *    its tree down first, each node after its children, with the words of its new slots.
  *
  * 6. Between moves keep the words from the base on, the used count, and the slots that are to be named again; of a move that
  *    thinks on also the job table and the six words of the answer. Nothing else is remembered anywhere. The words
@@ -67,9 +71,11 @@
  * A call needs at most ARBORICX_STACK bytes of stack, a run or a carry-on at most ARBORICX_RUN_STACK, and a plain run,
  * which is for testers, up to ARBORICX_PLAIN_STACK. That is so in a program that is linked with -Wl,-z,now, or statically.
  * With lazy binding the first call of memset and of memcpy in a process goes through the loader, on the stack of whoever
- * calls: on x86-64 the first load then takes 13 KiB, still within ARBORICX_STACK, but the first run 3.4 KiB, which is more
- * than ARBORICX_RUN_STACK. On the stack of a thread there are also its own frames and what the C library keeps there: give
- * it ARBORICX_THREAD_EXTRA bytes beside what its calls need, which is enough for either way of binding.
+ * calls, where it saves the processor's registers. On an x86-64 with AVX-512 the first load then takes 13 KiB, still
+ * within ARBORICX_STACK, but the first run 3.4 KiB, which is more than ARBORICX_RUN_STACK.
+ * On the stack of a thread there are also its own frames and what the C library keeps there: give it ARBORICX_THREAD_EXTRA
+ * bytes beside what its calls need, which is enough for either way of binding; or PTHREAD_STACK_MIN where that is more, as
+ * on AArch64.
  *
  * ---- The lent tables
  *
@@ -331,8 +337,9 @@ uint32_t arboricx_load(const uint8_t *file, uint64_t file_len,
 /*
  * Applies slot f to slot x, with fuel for so many steps: 21, 23 or 24; 31, 32 or 33; or 0.
  *
- * `used` is the count that the last run of any kind not refused answered, or before any such call the load's node count.
- * It is checked, as the used slots are: a table that was damaged meanwhile is refused.
+ * `used` is the count that the last run of any kind not refused answered, or before any such call the load's node count;
+ * an older one gives slots back, a larger one counts slots that you wrote. It is checked, as the used slots are: a table
+ * that was damaged meanwhile is refused.
  * 0: done. The answer is 0, the slot of the result, 0, the steps taken, the used count now, 0.
  * 31, 32, 33: stopped. The answer is the number, the f and the x still to be applied, the steps taken, the used count
  * now, and how many jobs wait in the job table.
@@ -358,6 +365,7 @@ uint32_t arboricx_run(uint32_t *words, uint64_t words_len, int32_t base,
  *      arboricx_carry_on(words, words_len, base, (int32_t)a[ARBORICX_RUN_F], (int32_t)a[ARBORICX_RUN_X],
  *                        a[ARBORICX_RUN_USED], a[ARBORICX_RUN_JOBS], a[ARBORICX_RUN_STEPS], fuel, jobs, jobs_len, a);
  *
+ * After 0 there is nothing to go on with: the numbers of such an answer would be taken as its slot applied to the leaf.
  * After other runs of any kind on the same words `used` is the count that the last of them answered, and the job table
  * is the one that the stop left. All of it is checked, whoever wrote it. What a stop leaves, by 31, 32 or 33, of a run or
  * of a carry-on, is refused with 40 at most. After 32 lend a longer word table, after 33 a longer job table, with the

@@ -64,8 +64,8 @@ archive() {
 
 archive x86_64-linux-gnu x86_64-unknown-linux-gnu unwound.ll
 archive aarch64-linux-gnu aarch64-unknown-linux-gnu unwound.ll
-# ARM's own tables for unwinding would want two names of the compiler's library; those for a debugger want none.
-archive arm-linux-gnueabihf armv7-unknown-linux-gnueabihf module.ll -fforce-dwarf-frame
+# ARM's own tables for unwinding would want two names of the compiler's library; those for a debugger want none. Not every armv7 has NEON.
+archive arm-linux-gnueabihf armv7-unknown-linux-gnueabihf module.ll -fforce-dwarf-frame -mfpu=vfpv3-d16
 
 # WebAssembly, linked to a module that imports nothing: it exports the functions of the header, its memory and where that is free. Its
 # own instructions take the place of memcpy and memset. The stack, for a plain run too, is the first MiB, so that a call that needed more

@@ -24,6 +24,7 @@ put "$here/packaging/README.md" README.md
 put "$here/CHANGELOG.md" CHANGELOG.md
 put "$here/include/arboricx.h" include/arboricx.h
 for file in example.c arboricx.c opponents.arboricx page.mjs; do put "$here/host/$file" "host/$file"; done
+put "$here/crates/check_bundle/stdin" host/leaf.arboricx
 for file in FORMAT.md GUARANTEES.md guarantees/ground.md TRUST.md; do put "$here/docs/$file" "docs/$file"; done
 for processor in x86_64-linux-gnu aarch64-linux-gnu arm-linux-gnueabihf; do
     put "$archives/$processor/libarboricx.a" "lib/$processor/libarboricx.a"

@@ -49,6 +49,14 @@ check_programs() {
     echo "$processor: the example says: $(echo $said); the tool plays on both engines"
 }
 
+# Not every armv7 has NEON.
+check_baseline() {
+    [ "$processor" = armv7 ] || return 0
+    "$tools-readelf" -A "$archive" | grep -q SIMD && fail 'the archive wants NEON'
+    "$qemu" -cpu cortex-a9,neon=off "$out/$processor.example" <host/opponents.arboricx >/dev/null || fail 'the example does not run without NEON'
+    echo "$processor: the example runs without NEON"
+}
+
 check_stack() {
     build "$out/$processor.inputs" -D_DEFAULT_SOURCE bench/stack_inputs.c bench/bench_bundles.c bench/workloads.c tests/reference.c \
         && "$qemu" "$out/$processor.inputs" "$out/$processor.given" || fail 'the inputs for the stack are not made'
@@ -68,6 +76,7 @@ check() {
     check_names
     check_header
     check_programs
+    check_baseline
     check_stack
     check_calls
 }

@@ -137,5 +137,11 @@ for (; part.number === 31 && turns < 100; turns++) part = match.carryOn(part, 1)
 expect("the second move in parts", [turns, part], [4, second]);
 const endless = match.carryOn(match.move(loaded.exports[ENDLESS], LEAF, loaded.nodes, 100), 200);
 expect("a move without end", [endless.number, endless.steps, endless.used, endless.jobs], [31, 300, 143, 0]);
+for (const wrong of [undefined, 2 ** 32, 0.5, NaN, "1"]) {
+    let thrown = false;
+    try { match.move(wrong, LEAF, loaded.nodes, 1); } catch (error) { thrown = error instanceof RangeError; }
+    expect(`a RangeError for ${wrong}`, thrown, true);
+}
+expect("a slot before the first", match.move(-3, LEAF, loaded.nodes, 1).number, 23);
 expect("a slot that is not used", match.move(LEAF, 11, loaded.nodes, 1).number, 23);
 console.log("wasm: host/page.mjs plays the sample bundle as the host does");
