@@ -14,8 +14,8 @@
 #   make index      docs/GUARANTEES.md against the tree
 #   make believe    docs/TRUST.md against the definitions that a reader has to believe
 #
-# Only `make`, `make archives` and `make dist` prove anything anew. The others take the archive that is there, by ARCHIVE=PATH another one, and build it only
-# where there is none.
+# Only `make`, `make archives` and `make dist` prove what changed. The others take the archive that is there, by ARCHIVE=PATH another one, and build it only
+# where there is none; archives for other processors, and the program check_bundle, they only take.
 
 OUT = target/c
 BUILT = target/staticlib/libarboricx.a
@@ -48,7 +48,6 @@ crates_of = $(shell awk -F: -v crate=$(1) '\
 sources = crates.txt $(shell find $(patsubst %,crates/%,$(1)) -path '*/must-fail' -prune -o -print)
 
 ARCHIVE_CRATES := $(call crates_of,arboricx)
-PROGRAM_CRATES := $(call crates_of,check_bundle)
 
 # Runs commands of rt and shows what it says of each crate as it comes; the prover's own words are in the log, which is shown
 # where one fails.
@@ -59,10 +58,11 @@ need_kit = $(if $(KIT),,{ echo '$(1), and building it needs the Rattle kit: rt i
 # When it was last built: an archive that is there has no rule to be made anew by, so that nothing but this waits for a proof.
 BUILD = $(OUT)/archive.built
 archive: $(BUILD)
+FORCE:
 
 # The crates below it first: rt check proves as many at a time as there are processors, rt staticlib one after the other.
-$(BUILD): $(call sources,$(ARCHIVE_CRATES))
-	@$(call need_kit,The sources changed since the archive was built)
+$(BUILD): $(call sources,$(ARCHIVE_CRATES)) $(if $(wildcard $(BUILT)),,FORCE)
+	@$(call need_kit,There is no archive of these sources)
 	@mkdir -p $(OUT)
 	@echo 'Proving $(words $(ARCHIVE_CRATES)) crates for the archive: a few minutes the first time, later only those that changed.'
 	@$(call show_proving,rt check $(filter-out arboricx,$(ARCHIVE_CRATES)) && echo 'rt: arboricx and the archive' && rt staticlib arboricx,$(OUT)/archive.log)
@@ -70,14 +70,19 @@ $(BUILD): $(call sources,$(ARCHIVE_CRATES))
 
 $(BUILT):
 	@$(call need_kit,There is no archive at $@)
-	@rm -f $(BUILD)
 	@$(MAKE) --no-print-directory archive
 
-# The program check_bundle, in the same way. Not at the same time as the archive: both are built in target/.
-$(PROGRAM): | $(ARCHIVE)
-	@$(call need_kit,There is no program at $@)
-	@echo 'Proving $(words $(PROGRAM_CRATES)) crates for the program check_bundle: those of the archive are proved.'
-	@$(call show_proving,rt check check_bundle,$(OUT)/program.log)
+ifneq ($(ARCHIVE),$(BUILT))
+$(ARCHIVE):
+	@echo 'There is no archive at $@.'; exit 1
+endif
+
+# Which archive is used: programs are linked again where it is another one, whatever its time is.
+USED = $(OUT)/archive.used
+$(USED): $(ARCHIVE) FORCE
+	@mkdir -p $(OUT)
+	@sha256sum $(ARCHIVE) >$@.new
+	@if cmp -s $@ $@.new; then rm $@.new; else mv $@.new $@; fi
 
 # ---- for other processors, and for those who have no kit
 
@@ -87,36 +92,35 @@ archives: archive
 dist: archives
 	packaging/dist.sh $(ARCHIVES) target/dist
 
-# The last of them that is built; these too have no rule to be made anew by.
+# The last of them that is built.
 LAST = $(ARCHIVES)/wasm32/arboricx.wasm
-$(LAST):
-	@$(call need_kit,There are no archives in $(ARCHIVES))
-	@$(MAKE) --no-print-directory archives
 
 # ---- the host
 
 host: older $(OUT)/arboricx
 
-$(OUT)/arboricx: host/arboricx.c $(HEADERS) $(ARCHIVE)
+$(OUT)/arboricx: host/arboricx.c $(HEADERS) $(USED)
 	@mkdir -p $(OUT)
 	$(CC) $(CFLAGS) -Wconversion -Werror $< $(ARCHIVE) -Wl,-z,now -o $@
 
-# Says so where the archive that is used is not that of the sources.
+# Says so where an archive that is there is not that of the sources.
 older: $(ARCHIVE)
-	@[ $(ARCHIVE) != $(BUILT) ] || [ -z "$$(find crates.txt $(patsubst %,crates/%,$(ARCHIVE_CRATES)) -path '*/must-fail' -prune -o -newer $(BUILT) -print | head -n 1)" ] \
-	    || echo 'Note: the archive that is used is older than its sources. `make` builds it anew.'
+	@for built in $(BUILT) $(LAST); do \
+	    [ ! -e $$built ] || [ -z "$$(find crates.txt $(patsubst %,crates/%,$(ARCHIVE_CRATES)) -path '*/must-fail' -prune -o -newer $$built -print | head -n 1)" ] \
+	        || echo "Note: $$built is older than its sources: make archives builds it anew."; \
+	done
 
 # ---- the outside tests
 
-$(OUT)/compare: $(TESTS) $(HEADERS) $(ARCHIVE)
+$(OUT)/compare: $(TESTS) $(HEADERS) $(USED)
 	@mkdir -p $(OUT)
 	$(CC) $(CFLAGS) $(TESTS) $(ARCHIVE) -o $@
 
-$(OUT)/compare-sanitized: $(TESTS) $(HEADERS) $(ARCHIVE)
+$(OUT)/compare-sanitized: $(TESTS) $(HEADERS) $(USED)
 	@mkdir -p $(OUT)
 	$(CC) $(SANITIZE) $(TESTS) $(ARCHIVE) -o $@
 
-$(OUT)/compare-faults: $(TESTS) $(HEADERS) $(ARCHIVE)
+$(OUT)/compare-faults: $(TESTS) $(HEADERS) $(USED)
 	@mkdir -p $(OUT)
 	$(CC) $(CFLAGS) -DREFERENCE_FAULTS $(TESTS) $(ARCHIVE) -o $@
 
@@ -147,7 +151,7 @@ example: $(ARCHIVE)
 	sh tests/example.sh $(ARCHIVE) $(OUT)/example
 
 # The tool says what it is to say of sound, refused, missing and unreadable files, and tells where a wrong archive differs.
-$(OUT)/arboricx-wrong: tests/host/tool_wrong.c host/arboricx.c $(HEADERS) $(ARCHIVE)
+$(OUT)/arboricx-wrong: tests/host/tool_wrong.c host/arboricx.c $(HEADERS) $(USED)
 	@mkdir -p $(OUT)
 	$(CC) $(CFLAGS) $< $(ARCHIVE) -o $@
 
@@ -163,27 +167,27 @@ fixtures:
 	sh tests/fixtures.sh $(OUT)/fixtures
 
 # What `make dist` packs, out of the archives that are there, is whole and builds where there is no kit.
-packed: $(if $(KIT),$(LAST))
-	@if [ -e $(LAST) ]; then packaging/dist.sh $(ARCHIVES) $(OUT)/dist && sh tests/dist.sh $(OUT)/dist; \
-	    else echo 'There are no archives here, and no kit to build them: what make dist packs is not tried.'; fi
+packed:
+	@if [ -e $(LAST) ]; then sh tests/dist.sh $(ARCHIVES) $(OUT)/dist; \
+	    else echo 'There is no $(LAST), which make archives builds: what make dist packs is not tried.'; fi
 
 # On other processors, with the archives that are there.
-test-arm:
+test-arm: older
 	sh tests/arm.sh $(ARCHIVES) $(OUT)/arm $(SEED)
 
-test-wasm: $(OUT)/compare
+test-wasm: older $(OUT)/compare
 	sh tests/wasm.sh $(ARCHIVES)/wasm32/arboricx.wasm $(OUT)/compare $(OUT)/wasm.record $(SEED)
 
 # ---- the stack: a program that only measures, so that the archive's first call of memset is the first of the process
 
-$(OUT)/stack-inputs: bench/stack_inputs.c bench/bench_bundles.c bench/workloads.c tests/reference.c $(HEADERS) $(ARCHIVE)
+$(OUT)/stack-inputs: bench/stack_inputs.c bench/bench_bundles.c bench/workloads.c tests/reference.c $(HEADERS) $(USED)
 	@mkdir -p $(OUT)
 	$(CC) $(CFLAGS) -D_DEFAULT_SOURCE $(filter %.c,$^) $(ARCHIVE) -o $@
 
 $(OUT)/stack.inputs: $(OUT)/stack-inputs
 	$< $@
 
-$(OUT)/stack-%: bench/stack.c $(HEADERS) $(ARCHIVE)
+$(OUT)/stack-%: bench/stack.c $(HEADERS) $(USED)
 	$(CC) $(CFLAGS) $< $(ARCHIVE) -pthread $(if $(filter static,$*),-static,-Wl,-z,$*) -o $@
 
 # Static only where there is a C library for it.
@@ -197,7 +201,7 @@ stacked: $(OUT)/stack.inputs $(patsubst %,$(OUT)/stack-%,$(WAYS))
 
 # ---- the bench
 
-$(OUT)/bench: $(BENCH) $(HEADERS) $(ARCHIVE) $(if $(CLANG),$(OUT)/plain_c_clang.o)
+$(OUT)/bench: $(BENCH) $(HEADERS) $(USED) $(if $(CLANG),$(OUT)/plain_c_clang.o)
 	@mkdir -p $(OUT)
 	$(CC) $(CFLAGS) -D_DEFAULT_SOURCE -DFLAGS='"-O2"' $(if $(CLANG),-DBENCH_CLANG) $(BENCH) $(filter %.o,$^) $(ARCHIVE) -Wl,-z,now -o $@
 
@@ -207,8 +211,8 @@ $(OUT)/plain_c_clang.o: $(PLAIN_C) $(HEADERS)
 	$(CLANG) -std=c11 -O3 $(STRICT) -DFLAGS='"-O3"' -DTABLE=plain_c_clang -r -nostdlib $(PLAIN_C) -o $@
 	objcopy --keep-global-symbol=plain_c_clang $@
 
-bench: older $(OUT)/bench $(if $(KIT),$(PROGRAM))
+bench: older $(OUT)/bench
 	@$(if $(CLANG),,echo 'There is no clang here: its column is left out.')
-	@$(if $(KIT),,echo 'There is no kit here: the program check_bundle is left out.')
-	$(OUT)/bench $(ROUNDS) $(if $(KIT),$(PROGRAM))
+	@[ -x $(PROGRAM) ] || echo 'There is no $(PROGRAM), which rt check check_bundle builds: it is left out.'
+	$(OUT)/bench $(ROUNDS) $(wildcard $(PROGRAM))
 	sh bench/size.sh $(ARCHIVE)

@@ -90,7 +90,7 @@ static void print_verdict(FILE *out, const char *what, uint32_t number)
     fprintf(out, ": %" PRIu32 ", %s\n", number, arboricx_number_text(number));
 }
 
-/* ---- Progress, where standard error is a terminal and the answers go elsewhere */
+/* ---- Progress, where standard error is a terminal */
 
 enum { PROGRESS_STEP = 16 }; /* files from one line to the next */
 
@@ -98,8 +98,7 @@ static int progress_width; /* of the line that stands there, 0 for none */
 
 static void show_progress(int done, int count)
 {
-    if (count == 1 || done % PROGRESS_STEP != 0) return;
-    if (!isatty(fileno(stderr)) || isatty(fileno(stdout))) return;
+    if (count == 1 || done % PROGRESS_STEP != 0 || !isatty(fileno(stderr))) return;
     progress_width = fprintf(stderr, "\r%d of %d files", done, count) - 1;
 }
 
@@ -107,6 +106,12 @@ static void clear_progress(void)
 {
     if (progress_width > 0) fprintf(stderr, "\r%*s\r", progress_width, "");
     progress_width = 0;
+}
+
+/* Begins a line of answers, in place of the progress where the two are on one screen. */
+static void begin_answer(void)
+{
+    if (progress_width > 0 && isatty(fileno(stdout))) clear_progress();
 }
 
 /* Begins a line on standard error, after all that was printed before. */
@@ -199,6 +204,7 @@ static int check_file(const char *path)
     if (read_file(path, BUNDLE, &file) != FINE) return TROUBLE;
     const uint32_t number = arboricx_check(file.at, file.len);
     free(file.at);
+    begin_answer();
     if (number != ARBORICX_OK) {
         print_verdict(stdout, path, number);
         return REFUSED;
@@ -240,6 +246,7 @@ static int sum_file(const char *path)
     if (!too_long) arboricx_sha256(file.at, file.len, digest);
     free(file.at);
     if (too_long) return trouble(path, "too long");
+    begin_answer();
     print_sum(digest, path);
     return FINE;
 }
@@ -581,7 +588,7 @@ static const char NOTES[] =
     "\n"
     "What was asked for goes to standard output, and why it could not be had to\n"
     "standard error. With several files a command goes on after one that fails, and\n"
-    "shows how far it is where standard error is a terminal and standard output not.\n"
+    "shows how far it is where standard error is a terminal.\n"
     "\n"
     "Exit status, the largest that applies:\n"
     "  0  all is well: the bundles are sound, or the play was played, whoever won\n"

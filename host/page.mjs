@@ -52,7 +52,8 @@ export async function open(wasm) {
             return { number, nodes, exports: read(exports, count) };
         },
 
-        // Slot f, the opponent, applied to slot x. 0: the result is in `slot`. 31: it thinks on, by carryOn.
+        // Slot f, the opponent, applied to slot x. 0: the result is in `slot`. 31: it thinks on, by carryOn, unless another move
+        // came between: there is one job table.
         move(f, x, used, fuel) {
             arboricx.arboricx_run(words, WORDS_LEN, BASE, ...whole(f, x, used, fuel), jobs, JOBS_LEN, answer);
             return moved(read(answer, 6));

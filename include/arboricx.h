@@ -49,8 +49,8 @@
  *      32, 33  no slot, or no place for a job, is left. Carry on with a longer table that begins with the same words, or
  *              give the move up. New words of a word table may hold anything; those of a job table have to be 0. The
  *              fuel that is left of the turn is what was handed in, less the steps that were taken with it.
- *      other   refused: nothing has changed, and the numbers handed in, or the table, are not what a call left. The used
- *              count is the one from before.
+ *      other   refused: nothing has changed, and the used count is the one from before. 40: the steps of the move would
+ *              pass what a number holds. All others: the numbers handed in, or the tables, are not what a call left.
  *    To carry on is not to start anew: a run of the f and x that a stop answered works out that part alone, and forgets
  *    the jobs that wait for it.
  *
@@ -71,8 +71,8 @@
  * A call needs at most ARBORICX_STACK bytes of stack, a run or a carry-on at most ARBORICX_RUN_STACK, and a plain run,
  * which is for testers, up to ARBORICX_PLAIN_STACK. That is so in a program that is linked with -Wl,-z,now, or statically.
  * With lazy binding the first call of memset and of memcpy in a process goes through the loader, on the stack of whoever
- * calls, where it saves the processor's registers. On an x86-64 with AVX-512 the first load then takes 13 KiB, still
- * within ARBORICX_STACK, but the first run 3.4 KiB, which is more than ARBORICX_RUN_STACK.
+ * calls, where it saves the processor's registers. With glibc 2.36 on an x86-64 with AVX-512 the first load then takes
+ * 13 KiB, still within ARBORICX_STACK, but the first run 3.4 KiB, which is more than ARBORICX_RUN_STACK.
  * On the stack of a thread there are also its own frames and what the C library keeps there: give it ARBORICX_THREAD_EXTRA
  * bytes beside what its calls need, which is enough for either way of binding; or PTHREAD_STACK_MIN where that is more, as
  * on AArch64.
@@ -215,7 +215,7 @@ static inline const char *arboricx_number_text(uint32_t number)
     case ARBORICX_MANIFEST_SHAPE: return "the manifest is not well formed";
     case ARBORICX_UNSUPPORTED: return "the manifest asks for something that is not supported";
     case ARBORICX_EXPORT_NAMES: return "an export name is empty, over 64 bytes, or used twice";
-    case ARBORICX_NODES_SHAPE: return "the nodes section is not well formed, or has not 1 to 512 nodes";
+    case ARBORICX_NODES_SHAPE: return "the nodes section is not well formed, or does not have 1 to 512 nodes";
     case ARBORICX_HASH_WRONG: return "the hash of a node is wrong";
     case ARBORICX_HASH_TWICE: return "two nodes carry the same hash";
     case ARBORICX_CHILD_MISSING: return "a child of a node is missing";

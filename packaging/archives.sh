@@ -15,7 +15,7 @@ cd "$(dirname "$0")/.."
 out=$(mkdir -p "$1" && cd "$1" && pwd)
 machine=$(uname -m)
 rt=$(command -v rt) || { echo 'The archives are built with the Rattle kit: rt is not on the path.' >&2; exit 1; }
-own=${RATTLE_HOME:-$(dirname "$(dirname "$(readlink -f "$rt")")")}
+own=$(readlink -f "${RATTLE_HOME:-$(dirname "$(dirname "$(readlink -f "$rt")")")}")
 tools=$(readlink -f "$own/on/$machine/toolchain")
 
 # The kit once more, in links, with a compiler that keeps the module.

@@ -12,6 +12,7 @@ mkdir -p "$2"
 cd "$2"
 version=$(sed -n 's/^#define ARBORICX_VERSION_TEXT "\(.*\)"$/\1/p' "$here/include/arboricx.h")
 day=$(sed -n "s/^## $version (\(.*\))$/\1/p" "$here/CHANGELOG.md")
+[ -n "$version" ] && [ -n "$day" ] || { echo 'CHANGELOG.md has no day for the version of the header.' >&2; exit 1; }
 name=arboricx-$version
 rm -rf "$name" "$name.tar" "$name.tar.sha256"
 

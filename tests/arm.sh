@@ -43,10 +43,16 @@ check_header() {
 
 check_programs() {
     build "$out/$processor.example" -Wconversion -Werror host/example.c || fail 'host/example.c does not build'
-    said=$("$qemu" "$out/$processor.example" <host/opponents.arboricx) || fail "host/example.c fails: $said"
+    sed -n '/^```text$/,/^```$/p' README.md | sed '1d;$d' >"$out/expected"
+    "$qemu" "$out/$processor.example" <host/opponents.arboricx | diff "$out/expected" - || fail 'host/example.c says something else'
     build "$out/$processor.tool" -Wconversion -Werror host/arboricx.c || fail 'host/arboricx.c does not build'
-    "$qemu" "$out/$processor.tool" play --both host/opponents.arboricx >"$out/$processor.played" || fail "the tool fails: $(cat "$out/$processor.played")"
-    echo "$processor: the example says: $(echo $said); the tool plays on both engines"
+    build "$out/$processor.wrong" tests/host/tool_wrong.c || fail 'tests/host/tool_wrong.c does not build'
+    for tool in tool wrong; do
+        printf '#!/bin/sh\nexec %s %s "$@"\n' "$qemu" "$(cd "$out" && pwd)/$processor.$tool" >"$out/$processor.$tool.sh"
+        chmod +x "$out/$processor.$tool.sh"
+    done
+    sh tests/tool.sh "$out/$processor.tool.sh" "$out/$processor.wrong.sh" >"$out/$processor.said" || { cat "$out/$processor.said"; fail 'the tool says something else'; }
+    echo "$processor: the example and the tool say what they are to say"
 }
 
 # Not every armv7 has NEON.
@@ -60,8 +66,13 @@ check_baseline() {
 check_stack() {
     build "$out/$processor.inputs" -D_DEFAULT_SOURCE bench/stack_inputs.c bench/bench_bundles.c bench/workloads.c tests/reference.c \
         && "$qemu" "$out/$processor.inputs" "$out/$processor.given" || fail 'the inputs for the stack are not made'
-    build "$out/$processor.measure" bench/stack.c -pthread || fail 'the measure of the stack does not build'
-    "$qemu" "$out/$processor.measure" "$out/$processor.given" static >"$out/$processor.stack" || { cat "$out/$processor.stack"; fail 'a call takes more stack than the header says'; }
+    : >"$out/$processor.stack"
+    for way in static now lazy; do
+        [ $way = static ] && linked=-static || linked="-Wl,-z,$way"
+        "$tools-gcc" -std=c11 -O2 -Iinclude -Itests bench/stack.c "$archive" -pthread $linked -o "$out/$processor.measure" || fail 'the measure of the stack does not build'
+        "$qemu" -L "/usr/$tools" "$out/$processor.measure" "$out/$processor.given" $way >>"$out/$processor.stack" \
+            || { cat "$out/$processor.stack"; fail 'a call takes more stack than the header says'; }
+    done
     echo "$processor: each call takes no more stack than the header says ($out/$processor.stack)"
 }
 

@@ -18,5 +18,5 @@ for compiler in 'cc -std=c99' 'cc -std=c11' 'clang -std=c11' 'g++ -x c++ -std=c+
 done
 status=0
 "$2" <"$here/Makefile" >"$2.stdout" || status=$?
-[ "$status: $(cat "$2.stdout")" = '1: refused with 3: the file does not begin with ARBORICX' ] || { echo "of a file that is no bundle it says: $(cat "$2.stdout")"; exit 1; }
+[ "$status: $(cat "$2.stdout")" = '1: refused, 3: the file does not begin with ARBORICX' ] || { echo "of a file that is no bundle it says: $(cat "$2.stdout")"; exit 1; }
 echo 'example: it is the one of README.md, builds as C and as C++, and says what it is to say'

@@ -7,8 +7,9 @@ Names: the functions that the header declares are those that the source exports 
 nothing else than memcpy and memset. Arguments: each function is declared once more, as its source has it, beside the header; the
 compiler refuses two declarations that differ. The arguments have the same names too, and what the header tells the compiler of
 pointers and lengths is so. Sizes: each lent array has the length that the source says, and each limit of the header is the source's
-constant, as is its version, which is also the newest of CHANGELOG.md. Each number has a text of its own. The header is C99, C11 and C++.
-A compiler that knows the attributes refuses a null table, a short answer and a length that is too long.
+constant, as is its version, which is also the newest of CHANGELOG.md. Each number has the name and the text that are listed here. The
+archive has no variable. The header is C99, C11 and C++. A compiler that knows the attributes warns of a null table, a short answer and a
+length that is too long.
 
 Then the same is asked of headers that are wrong, each in one place; the test fails if one of them passes.
 """
@@ -25,11 +26,57 @@ SOURCE = "\n".join(path.read_text() for path in sorted((ROOT / "crates/arboricx/
 HEADER = (ROOT / "include/arboricx.h").read_text()
 SIZES = (ROOT / "crates/sizes/src/lib.rt").read_text()
 LIMITS = (ROOT / "crates/table/src/limits.rt").read_text()
+SLOTS = (ROOT / "crates/table/src/slots.rt").read_text()
+FRAMES = (ROOT / "crates/frames/src/lib.rt").read_text()
 APPLYING = (ROOT / "crates/applying/src/lib.rt").read_text()
 CHANGES = (ROOT / "CHANGELOG.md").read_text()
 
 # a length or a place has 64 bits in the archive of every processor
 C_TYPE = {"u8": "uint8_t", "u32": "uint32_t", "i32": "int32_t", "usize": "uint64_t"}
+
+
+# a table that a call fills without reading it; all other tables that are not const are read, too
+FILLED = {("arboricx_load", "words"), ("arboricx_load", "exports"), ("arboricx_run", "jobs")}
+ATTRIBUTES = {
+    "NONNULL": "__attribute__((nonnull))",
+    "READS(table, length)": "__attribute__((access(read_only, table, length)))",
+    "CHANGES(table, length)": "__attribute__((access(read_write, table, length)))",
+    "FILLS(table, length)": "__attribute__((access(write_only, table, length)))",
+}
+# document 01's numbers and those of 02, their names for C, and their texts
+NUMBERS = [
+    (0, "OK", "no fault"),
+    (1, "FILE_TOO_LONG", "the file is over 65,536 bytes"),
+    (2, "FILE_TOO_SHORT", "the file is under 32 bytes"),
+    (3, "OTHER_MAGIC", "the file does not begin with ARBORICX"),
+    (4, "OTHER_MAJOR", "the major version of the file is not 1"),
+    (5, "NO_DIRECTORY", "the section count or the place of the directory is wrong"),
+    (6, "CRITICAL_SECTION", "a section of unknown type is critical"),
+    (7, "CODED_SECTION", "a section is compressed, or its digest is not SHA-256"),
+    (8, "SECTION_OUTSIDE", "a section passes the end of the file"),
+    (9, "SECTION_REPEATED", "there are two manifests, or two nodes sections"),
+    (10, "SECTION_MISSING", "the manifest or the nodes section is missing"),
+    (11, "DIGEST_DIFFERS", "the digest of a section differs"),
+    (12, "MANIFEST_SHAPE", "the manifest is not well formed"),
+    (13, "UNSUPPORTED", "the manifest asks for something that is not supported"),
+    (14, "EXPORT_NAMES", "an export name is empty, over 64 bytes, or used twice"),
+    (15, "NODES_SHAPE", "the nodes section is not well formed, or does not have 1 to 512 nodes"),
+    (16, "HASH_WRONG", "the hash of a node is wrong"),
+    (17, "HASH_TWICE", "two nodes carry the same hash"),
+    (18, "CHILD_MISSING", "a child of a node is missing"),
+    (19, "CIRCLE", "a node is its own descendant"),
+    (20, "HASH_UNRESOLVED", "the node of a root or of an export is missing"),
+    (21, "NO_ROOM", "the word table has no room, or the base or the used count is wrong"),
+    (22, "EXPORTS_TOO_SHORT", "the export table is too short"),
+    (23, "NO_SLOT", "a slot is not a used one"),
+    (24, "DAMAGED", "the used slots or the waiting jobs are damaged"),
+    (25, "NO_EXPORT", "there is no export of that name"),
+    (31, "OUT_OF_FUEL", "stopped: the fuel is spent"),
+    (32, "OUT_OF_SLOTS", "stopped: no slot is left"),
+    (33, "OUT_OF_JOBS", "stopped: no place for a job is left"),
+    (40, "TOO_MANY_STEPS", "the steps would pass 4,294,967,295"),
+    (49, "TOO_DEEP", "a plain run takes at most 1,000 steps and 1,000 jobs"),
+]
 
 
 class Differs(Exception):
@@ -72,23 +119,24 @@ def declared(header):
 
 
 def judge_attributes(name, kinds, attributes):
-    """No pointer is null, and each table that stands before its length is said to be that long: read, if it is const."""
-    said = " ".join(attributes)
+    """No pointer is null, and each table that stands before its length is said to be that long, and how it is used."""
     wanted = ["ARBORICX_NONNULL"] if any(k[-1] in "*]" for _, k, _ in kinds) else []
-    for place, (_, kind, _) in enumerate(kinds, 1):
+    for place, (argument, kind, _) in enumerate(kinds, 1):
         if kind.endswith("*"):
-            pair = rf"\({place}, {place + 1}\)"
-            wanted.append(("ARBORICX_READS" if kind.startswith("const") else r"ARBORICX_(?:CHANGES|FILLS)") + pair)
-    if not re.fullmatch(" ".join(wanted), said):
-        raise Differs(f"attributes of {name}: {said}")
+            use = "READS" if kind.startswith("const") else "FILLS" if (name, argument) in FILLED else "CHANGES"
+            wanted.append(f"ARBORICX_{use}({place}, {place + 1})")
+    agree(f"attributes of {name}", " ".join(attributes), " ".join(wanted))
 
 
 def judge_texts(header):
-    """Each number has one text, and no two share one."""
-    numbers = re.findall(r"^    (ARBORICX_\w+) = \d+", re.search(r"enum arboricx_number \{(.*?)\};", header, re.S)[1], re.M)
-    texts = re.findall(r"^    case (ARBORICX_\w+): return \"([^\"]+)\";$", header, re.M)
-    agree("numbers that have a text", [n for n, _ in texts], numbers)
-    agree("different texts", len({text for _, text in texts}), len(texts))
+    """The numbers, their names and their texts are those of the list; and what the attributes are."""
+    numbers = re.findall(r"^    ARBORICX_(\w+) = (\d+)", re.search(r"enum arboricx_number \{(.*?)\};", header, re.S)[1], re.M)
+    texts = re.findall(r"^    case ARBORICX_(\w+): return \"([^\"]+)\";$", header, re.M)
+    agree("the numbers", [(int(n), name) for name, n in numbers], [(n, name) for n, name, _ in NUMBERS])
+    agree("the texts", texts, [(name, text) for _, name, text in NUMBERS])
+    for name, meaning in ATTRIBUTES.items():
+        if f"#define ARBORICX_{name} {meaning}\n" not in header:
+            raise Differs(f"ARBORICX_{name} is not {meaning}")
 
 
 def judge_version(header):
@@ -103,9 +151,16 @@ def judge_version(header):
 def symbols(archive):
     listed = subprocess.run(["nm", archive], check=True, capture_output=True, text=True).stdout
     kinds = {"T": set(), "U": set()}
-    for kind, name in re.findall(r" ([A-Z]) (\S+)$", listed, re.M):
+    for kind, name in re.findall(r" ([A-Za-z]) (\S+)$", listed, re.M):
         kinds.setdefault(kind, set()).add(name)
     return kinds
+
+
+def variables(archive):
+    """The sections of an archive that can be written and have anything in them."""
+    listed = subprocess.run(["readelf", "-SW", archive], check=True, capture_output=True, text=True).stdout
+    sections = re.findall(r"\] (\S+) +\S+ +[0-9a-f]+ [0-9a-f]+ ([0-9a-f]+) [0-9a-f]+ +([A-Z]*W[A-Z]*) ", listed)
+    return [name for name, size, _ in sections if int(size, 16) > 0]
 
 
 def limits():
@@ -119,6 +174,8 @@ def limits():
         "ARBORICX_MAX_NAME": most["NAME"],
         "ARBORICX_MAX_SLOTS": cap["SLOTS"],
         "ARBORICX_MAX_JOBS": cap["FRAMES"],
+        "ARBORICX_SLOT_WORDS": int(re.search(r"const WORDS: usize = (\d+)", SLOTS)[1]),
+        "ARBORICX_JOB_WORDS": int(re.search(r"const WORDS: usize = (\d+)", FRAMES)[1]),
         "ARBORICX_MAX_PLAIN": int(re.search(r"const MOST: u32 = (\d+)", APPLYING)[1]),
     }
 
@@ -149,6 +206,8 @@ def judge(header_text, archive):
     agree("names of the header and of the source", sorted(header), sorted(functions))
     agree("names of the archive and of the source", sorted(names["T"]), sorted(functions))
     agree("what the archive wants", sorted(names["U"] - {"memcpy", "memset"}), [])
+    agree("kinds of names in the archive: functions, constants, what it wants", sorted(set(names) - set("TtRrU")), [])
+    agree("variables of the archive", variables(archive), [])
     for name, (_, arguments) in functions.items():
         kinds = [a for n, t in arguments for a in in_c(n, t)]
         agree(f"arguments of {name}", [n for n, _ in header[name][0]], [n for n, _, _ in kinds])
@@ -167,13 +226,15 @@ def judge(header_text, archive):
         compiles(["c++", *strict, here / "agree.cc", "-o", here / "agree"], "C++")
 
 
-# programs that a compiler is to refuse, and whether clang does too
+# programs that a compiler is to warn of, and whether clang does too
 MISUSE = [
     ("a short answer", "uint32_t a[2]; return (int)arboricx_load(file, 9, words, 9, 0, words, 0, a);", True),
     ("a null table", "uint32_t a[3]; return (int)arboricx_load(file, 9, 0, 0, 0, words, 9, a);", True),
     ("a null file", "return (int)arboricx_check(0, 0);", True),
     ("a length in bytes", "uint32_t a[6]; return (int)arboricx_run(words, sizeof words, 0, 0, 0, 1, 1, words, 9, a);", False),
     ("a file that is not so long", "return (int)arboricx_check(file, 10);", False),
+    ("an export table that is not so long", "uint32_t a[3]; return (int)arboricx_load(file, 9, words, 9, 0, words, 10, a);", False),
+    ("a job table that is not so long", "uint32_t a[6]; return (int)arboricx_run(words, 9, 0, 0, 0, 1, 1, words, 10, a);", False),
 ]
 RIGHT = "uint32_t a[6], e[9], j[9]; arboricx_load(file, 9, words, 9, 0, e, 9, a); return (int)arboricx_run(words, 9, 0, 0, 0, 1, 1, j, 9, a);"
 
@@ -210,6 +271,10 @@ WRONG = [
     ("a half digest", "ARBORICX_DIGEST_BYTES 32", "ARBORICX_DIGEST_BYTES 16"),
     ("a length that depends on the processor", "arboricx_check(const uint8_t *file, uint64_t file_len)", "arboricx_check(const uint8_t *file, size_t file_len)"),
     ("a number with no text", '    case ARBORICX_TOO_DEEP: return "a plain run takes at most 1,000 steps and 1,000 jobs";\n', ""),
+    ("two numbers swapped", "ARBORICX_HASH_WRONG = 16,     ", "ARBORICX_HASH_WRONG = 17,     "),
+    ("another job", "ARBORICX_JOB_WORDS 3", "ARBORICX_JOB_WORDS 4"),
+    ("words that are filled by a run", "ARBORICX_CHANGES(1, 2) ARBORICX_FILLS(8, 9)", "ARBORICX_FILLS(1, 2) ARBORICX_FILLS(8, 9)"),
+    ("an attribute that says nothing", "__attribute__((access(write_only, table, length)))", ""),
     ("one text for two numbers", '"the hash of a node is wrong"', '"two nodes carry the same hash"'),
     ("another version", "ARBORICX_VERSION 10000", "ARBORICX_VERSION 10001"),
     ("a table with another's length", "ARBORICX_READS(1, 2) ARBORICX_FILLS(3, 4)", "ARBORICX_READS(1, 4) ARBORICX_FILLS(3, 2)"),

@@ -199,7 +199,7 @@ TOOL_USED=$tool
     wrong terminal check missing sample sample | tr '\r' '~'
     wrong terminal check sample small | tr '\r' '~'
     wrong terminal check sample
-    wrong terminals check sample small
+    wrong terminals check sample small | tr '\r' '~'
     wrong terminal check sample sample sample sample sample sample sample sample sample sample sample sample sample sample \
         sample sample magic missing | tr '\r' '~'
 

@@ -12,7 +12,7 @@ use lib.ListN.{length}
 use Rattle.calculus.specs.Tree.{Tree, leaf, stem, fork}
 use Rattle.calculus.specs.Rules.{TreeFrame, operand, argument, function, treeRule}
 use Rattle.calculus.specs.Machine.{MachineState, Stop, out-of-fuel, out-of-slots, out-of-places, MachineTurn, going, done, stop, machineMeet, machineCarry, machineStep}
-use Rattle.calculus.specs.Machine.{Ending, ended, stopped, Outcome, halted, proceed, run}
+use Rattle.calculus.specs.Machine.{stopNumber, Ending, ended, stopped, Outcome, halted, proceed, run}
 use Rattle.calculus.specs.Laws.{StopsAt, fuel-out, slot-for-1, slot-for-2, place-for-4, place-for-7, StopsExactly}
 use Rattle.calculus.specs.Laws.{StopNumbers}
 
@@ -101,3 +101,20 @@ stops-exactly (suc fuel) free places s why =
 
 pub stop-numbers : StopNumbers
 stop-numbers = (refl, refl, refl)
+
+-- a stop's number is no 0, and tells its reason
+pub stop-above : (why : Stop) → stopNumber why ≡ 0 → ⊥
+stop-above out-of-fuel e = omega arith
+stop-above out-of-slots e = omega arith
+stop-above out-of-places e = omega arith
+
+pub one-reason : (why other : Stop) → stopNumber why ≡ stopNumber other → why ≡ other
+one-reason out-of-fuel out-of-fuel e = refl
+one-reason out-of-fuel out-of-slots e = absurd (omega arith)
+one-reason out-of-fuel out-of-places e = absurd (omega arith)
+one-reason out-of-slots out-of-fuel e = absurd (omega arith)
+one-reason out-of-slots out-of-slots e = refl
+one-reason out-of-slots out-of-places e = absurd (omega arith)
+one-reason out-of-places out-of-fuel e = absurd (omega arith)
+one-reason out-of-places out-of-slots e = absurd (omega arith)
+one-reason out-of-places out-of-places e = refl

@@ -47,13 +47,17 @@ StepsSpent =
     ((t : Tree) → o .ending ≡ ended t → run (o .steps) free places s ≡ o) ×
     ((RunsOut o → ⊥) → run (suc (o .steps)) free places s ≡ o)
 
--- A step makes at most one node and adds at most one frame. So a run stops for want of a slot only where there were fewer of them than
--- fuel, and for want of a place only where the frames that waited and the fuel were more than the places.
+-- A step makes at most one node and adds at most one frame. So a run makes no more nodes than it has fuel, and at a stop no more frames
+-- wait than before and fuel together; it stops for want of a slot only where there were fewer of them than fuel, and for want of a
+-- place only where the frames that waited and the fuel were more than the places.
 abbrev pub AllowanceBounds : Type 0
 AllowanceBounds =
-    (fuel free places : ℕ) (s : MachineState) (f x : Tree) (js : List TreeFrame) →
-    (run fuel free places s .ending ≡ stopped out-of-slots f x js → free < fuel) ×
-    (run fuel free places s .ending ≡ stopped out-of-places f x js → places < length (s .frames) + fuel)
+    (fuel free places : ℕ) (s : MachineState) →
+    let o : Outcome = run fuel free places s in
+    (length (o .made) ≤ fuel) ×
+    ((why : Stop) (f x : Tree) (js : List TreeFrame) → o .ending ≡ stopped why f x js → length js ≤ length (s .frames) + fuel) ×
+    ((f x : Tree) (js : List TreeFrame) → o .ending ≡ stopped out-of-slots f x js → free < fuel) ×
+    ((f x : Tree) (js : List TreeFrame) → o .ending ≡ stopped out-of-places f x js → places < length (s .frames) + fuel)
 
 -- A run that is done stays done with at least as much of everything: the same tree, steps and nodes made.
 abbrev pub MachineDoneStays : Type 0

@@ -9,9 +9,10 @@ use lib.Seq.{drop-append-seam}
 use lib.IntN.{ℤ, pos}
 use Rattle.calculus.specs.Tree.{Tree}
 use Rattle.calculus.specs.BigStep.{Costs}
-use Rattle.calculus.specs.Machine.{Stop, out-of-fuel, out-of-slots, out-of-places, stopNumber, ended, Outcome}
+use Rattle.calculus.specs.Machine.{ended, Outcome}
 use Rattle.calculus.specs.Machine as machine
 use Rattle.calculus.proofs.DoneStays.{not-done}
+use Rattle.calculus.proofs.Stops.{stop-above}
 use Rattle.calculus.proofs.DoneByCost.{done-by-cost}
 use Rattle.table.specs.Slots.{room}
 use Rattle.table.specs.Sound.{SoundSlots}
@@ -28,11 +29,6 @@ use Rattle.guarantees.specs.Run.{later}
 use Rattle.guarantees.specs.Plain.{PlainDoneExactly}
 use Rattle.guarantees.proofs.RunSimulates.{run-simulates}
 use Rattle.guarantees.proofs.PlainTwin.{lent, lent-room, twin}
-
-stop-above : (why : Stop) → stopNumber why ≡ 0 → ⊥
-stop-above out-of-fuel e = omega arith
-stop-above out-of-slots e = omega arith
-stop-above out-of-places e = omega arith
 
 -- ---- a run whose answer agrees with an outcome
 

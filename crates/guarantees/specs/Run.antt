@@ -197,11 +197,14 @@ abbrev pub waitingBefore : From → ℕ
 waitingBefore Scratch = 0
 waitingBefore (Stop waiting steps) = waiting
 
--- A run stops with 32 only where the used slots and the fuel are more than the room, and with 33 only where the jobs that wait and the
--- fuel are more than the job room. So a slot and a place for each step of the allowance are enough.
+-- A run makes no more nodes than it has fuel, and leaves no more jobs than waited before it and fuel together. It stops with 32 only
+-- where the used slots and the fuel are more than the room, and with 33 only where the jobs that waited and the fuel are more than the job
+-- room. So a slot and a place for each step of the allowance are enough, of one run and of several.
 abbrev pub RoomSuffices : Type 0
 RoomSuffices =
     (from : From) (w v j k : List ℕ) (b : ℕ) (f x : ℤ) (used fuel : ℕ) (a : RunAnswer)
-    → runFrom from w (pos b) f x used fuel j ≡ ran v k a
-    → (runNumbers a .number ≡ 32 → room (drop b w) < used + fuel)
+    → runFrom from w (pos b) f x used fuel j ≡ ran v k a → started (runNumbers a .number) ≡ true
+    → (runNumbers a .used ≤ used + fuel)
+    × (runNumbers a .waiting ≤ waitingBefore from + fuel)
+    × (runNumbers a .number ≡ 32 → room (drop b w) < used + fuel)
     × (runNumbers a .number ≡ 33 → frameRoom j < waitingBefore from + fuel)
