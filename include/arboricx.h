@@ -32,11 +32,11 @@
  * 1. Load. arboricx_load checks the bundle, and lays its nodes out from word `base` on. Keep the node count, which is the
  *    first used count, and the slots of the exports. The file is needed no longer, but for names.
  *
- * 2. Sizes. A step makes at most one node and adds at most one job. So a move with fuel for a steps, on n used slots, never
- *    stops with 32 if there is room for n + a slots, that is in base + ARBORICX_SLOT_WORDS * (n + a) words, and never
- *    with 33 if there is room for a jobs, in ARBORICX_JOB_WORDS * a words; up to the limits of 65,535 slots and as many
- *    jobs. Most moves need far less, and 32 and 33 say where they do not. For several moves on one table, or turns of one
- *    move, add their fuel, or give slots back (5).
+ * 2. Sizes. A step makes at most one node and adds at most one job. So a move with fuel for k steps, on n used slots, never
+ *    stops with 32 if there is room for n + k slots, that is in base + ARBORICX_SLOT_WORDS * (n + k) words, and never
+ *    with 33 if there is room for k jobs, in ARBORICX_JOB_WORDS * k words; up to the limits of 65,535 slots and as many
+ *    jobs. Most moves need far less, and 32 and 33 say where that is not enough. For several moves on one table, or turns
+ *    of one move, add their fuel, or give slots back (5).
  *
  * 3. A move. arboricx_run applies slot f, the opponent, to slot x, what it is told: both are below the used count. Slot 0
  *    is always the leaf. To tell it another tree, write its slots yourself ("The lent tables"), from the used count on and

@@ -30,6 +30,7 @@ SLOTS = (ROOT / "crates/table/src/slots.rt").read_text()
 FRAMES = (ROOT / "crates/frames/src/lib.rt").read_text()
 APPLYING = (ROOT / "crates/applying/src/lib.rt").read_text()
 CHANGES = (ROOT / "CHANGELOG.md").read_text()
+README = (ROOT / "README.md").read_text()
 
 # a length or a place has 64 bits in the archive of every processor
 C_TYPE = {"u8": "uint8_t", "u32": "uint32_t", "i32": "int32_t", "usize": "uint64_t"}
@@ -146,6 +147,7 @@ def judge_version(header):
     agree("the version as text", text, f"{number // 10000}.{number // 100 % 100}.{number % 100}")
     agree("the version of the source", int(re.search(r"fn arboricx_version\(\).*?^    (\d+)$", SOURCE, re.S | re.M)[1]), number)
     agree("the newest version of CHANGELOG.md", re.search(r"^## (\S+)", CHANGES, re.M)[1], text)
+    agree("the version of what is packed, in README.md", set(re.findall(r"arboricx-([0-9.]+)\.tar", README)), {text})
 
 
 def symbols(archive):
@@ -276,7 +278,7 @@ WRONG = [
     ("words that are filled by a run", "ARBORICX_CHANGES(1, 2) ARBORICX_FILLS(8, 9)", "ARBORICX_FILLS(1, 2) ARBORICX_FILLS(8, 9)"),
     ("an attribute that says nothing", "__attribute__((access(write_only, table, length)))", ""),
     ("one text for two numbers", '"the hash of a node is wrong"', '"two nodes carry the same hash"'),
-    ("another version", "ARBORICX_VERSION 10000", "ARBORICX_VERSION 10001"),
+    ("another version", "#define ARBORICX_VERSION ", "#define ARBORICX_VERSION 1"),
     ("a table with another's length", "ARBORICX_READS(1, 2) ARBORICX_FILLS(3, 4)", "ARBORICX_READS(1, 4) ARBORICX_FILLS(3, 2)"),
     ("jobs that are only read", "ARBORICX_CHANGES(1, 2) ARBORICX_CHANGES(10, 11)", "ARBORICX_CHANGES(1, 2) ARBORICX_READS(10, 11)"),
 ]
