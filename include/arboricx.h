@@ -50,7 +50,8 @@
  *              give the move up. New words of a word table may hold anything; those of a job table have to be 0. The
  *              fuel that is left of the turn is what was handed in, less the steps that were taken with it.
  *      other   refused: nothing has changed, and the used count is the one from before. 40: the steps of the move would
- *              pass what a number holds. All others: the numbers handed in, or the tables, are not what a call left.
+ *              pass what a number holds. All others: a number handed in is wrong, or the used slots or the jobs are not
+ *              sound; every call leaves them sound.
  *    To carry on is not to start anew: a run of the f and x that a stop answered works out that part alone, and forgets
  *    the jobs that wait for it.
  *

@@ -12,7 +12,7 @@ use Rattle.calculus.specs.Tree.{Tree}
 use Rattle.calculus.specs.Rules.{TreeFrame, operand, argument, function, TreeAction, make, give, go, push, treeRule}
 use Rattle.calculus.specs.Machine.{MachineState, Stop, out-of-fuel, out-of-slots, out-of-places, MachineTurn, going, done, stop, machineMeet, machineCarry, machineStep}
 use Rattle.calculus.specs.Machine.{Ending, ended, stopped, Outcome, halted, proceed, run}
-use Rattle.calculus.specs.Laws.{AllowanceBounds}
+use Rattle.calculus.specs.Laws.{WithinAllowance, AllowanceBounds}
 
 -- a turn from some frames, by what it makes and adds, or wants
 module _ (free places : ℕ) (js : List TreeFrame) where
@@ -46,14 +46,6 @@ carry-modest free places js (go f x) = (omega arith, omega arith)
 carry-modest free places js (push f x j) =
     tested free places js (length js) places _ out-of-places (omega arith, omega arith) (λ l. l)
 
--- what is said of an outcome
-abbrev Bounded : ℕ → ℕ → ℕ → ℕ → Outcome → Type 0
-Bounded fuel free places waiting o =
-    (length (o .made) ≤ fuel) ×
-    ((why : Stop) (f x : Tree) (js : List TreeFrame) → o .ending ≡ stopped why f x js → length js ≤ waiting + fuel) ×
-    ((f x : Tree) (js : List TreeFrame) → o .ending ≡ stopped out-of-slots f x js → free < fuel) ×
-    ((f x : Tree) (js : List TreeFrame) → o .ending ≡ stopped out-of-places f x js → places < waiting + fuel)
-
 -- endings that differ, and what is left of one that is the same
 other : {A : Type 0} → _≡_ {A = ℕ} 0 1 → A
 other e = absurd (omega arith)
@@ -67,9 +59,9 @@ left : (s : MachineState) (n why : Stop) (f x : Tree) (js : List TreeFrame) →
 left s n why f x js e = sym (ap (λ (d : Ending). length (frames-of d)) e) ∙ length-reverse (s .frames)
 
 module _ (fuel free places : ℕ) (s : MachineState)
-    (later : (k : ℕ) (s′ : MachineState) → Bounded fuel k places (length (s′ .frames)) (run fuel k places s′)) where
+    (later : (k : ℕ) (s′ : MachineState) → WithinAllowance fuel k places (length (s′ .frames)) (run fuel k places s′)) where
   by-turn : (t : MachineTurn) → Modest free places (s .frames) t →
-      Bounded (suc fuel) free places (length (s .frames)) (proceed (run fuel) free places s t)
+      WithinAllowance (suc fuel) free places (length (s .frames)) (proceed (run fuel) free places s t)
   by-turn (going made s′) (few, more) =
       let (nodes, wait, slots, room) = later (free - length made) s′ in (
         rw length-append (omega (arith, nodes, few)),

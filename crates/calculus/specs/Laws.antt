@@ -47,17 +47,20 @@ StepsSpent =
     ((t : Tree) → o .ending ≡ ended t → run (o .steps) free places s ≡ o) ×
     ((RunsOut o → ⊥) → run (suc (o .steps)) free places s ≡ o)
 
--- A step makes at most one node and adds at most one frame. So a run makes no more nodes than it has fuel, and at a stop no more frames
--- wait than before and fuel together; it stops for want of a slot only where there were fewer of them than fuel, and for want of a
--- place only where the frames that waited and the fuel were more than the places.
+-- An outcome makes no more nodes than there was fuel, and at a stop no more frames wait than before and fuel together; it stops for
+-- want of a slot only where there were fewer of them than fuel, and for want of a place only where the frames that waited and the fuel
+-- were more than the places.
+abbrev pub WithinAllowance : ℕ → ℕ → ℕ → ℕ → Outcome → Type 0
+WithinAllowance fuel free places waiting o =
+    (length (o .made) ≤ fuel) ×
+    ((why : Stop) (f x : Tree) (js : List TreeFrame) → o .ending ≡ stopped why f x js → length js ≤ waiting + fuel) ×
+    ((f x : Tree) (js : List TreeFrame) → o .ending ≡ stopped out-of-slots f x js → free < fuel) ×
+    ((f x : Tree) (js : List TreeFrame) → o .ending ≡ stopped out-of-places f x js → places < waiting + fuel)
+
+-- Every run does so, as a step makes at most one node and adds at most one frame.
 abbrev pub AllowanceBounds : Type 0
 AllowanceBounds =
-    (fuel free places : ℕ) (s : MachineState) →
-    let o : Outcome = run fuel free places s in
-    (length (o .made) ≤ fuel) ×
-    ((why : Stop) (f x : Tree) (js : List TreeFrame) → o .ending ≡ stopped why f x js → length js ≤ length (s .frames) + fuel) ×
-    ((f x : Tree) (js : List TreeFrame) → o .ending ≡ stopped out-of-slots f x js → free < fuel) ×
-    ((f x : Tree) (js : List TreeFrame) → o .ending ≡ stopped out-of-places f x js → places < length (s .frames) + fuel)
+    (fuel free places : ℕ) (s : MachineState) → WithinAllowance fuel free places (length (s .frames)) (run fuel free places s)
 
 -- A run that is done stays done with at least as much of everything: the same tree, steps and nodes made.
 abbrev pub MachineDoneStays : Type 0
