@@ -1,4 +1,5 @@
 // Document 01's program: loads the bundle on its standard input and writes what the load answers, and the exports.
+#![tactic(auto)]
 use libc::{STDIN_FILENO, STDOUT_FILENO};
 
 // Writes the text for an input.

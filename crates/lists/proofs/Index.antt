@@ -89,6 +89,7 @@ index_none t i (x ∷ xs) e (there a) = first (same_bytes x t) refl (λ f. index
     first : (b : Bool) → same_bytes x t ≡ b → (index_of t (i + 1) xs ≡ Nothing → ⊥) → ⊥
     first true q rest = no_index (rw q at e)
     first false q rest = rest (rw q at e)
+index_none t i [] e x' = elim x' [ ]
 
 -- where an index was found, and where none
 pub found_is : (f : Found) → found f ≡ true → (k : ℕ) × (f ≡ Index k)

@@ -28,6 +28,7 @@ module _ {A : Type 0} (test : A → List A → Bool) (P : A → Type 0)
   unfolding some_of
   none_each (y ∷ xs) e x here = (means x xs).0 ((either_false (test x xs) _).0 e).0
   none_each (y ∷ xs) e x (there a) = none_each xs ((either_false (test y xs) _).0 e).1 x a
+  none_each [] e x x4 = elim x4 [ ]
 
   each_none : (xs : List A) → ((x : A) → Among x xs → P x) → some_of test xs ≡ false
   unfolding some_of

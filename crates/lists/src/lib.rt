@@ -1,4 +1,5 @@
 // Lists of bytes and of numbers: the same ones, and the place of one among others.
+#![tactic(auto)]
 ghost use Rattle.std.specs.Prelude.{◌≡◌};
 ghost use Rattle.lists.specs.Lists.{same_bytes};
 

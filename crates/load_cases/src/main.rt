@@ -1,5 +1,6 @@
 // Loads each bundle that the input names into tables that are filled before, makes the runs that stand after it on the same
 // table, and writes what load and run answer and what the tables hold then.
+#![tactic(auto)]
 ghost use Rattle.std.specs.Prelude.{◌≤◌};
 
 use cases::answers::run_line;

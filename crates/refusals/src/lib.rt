@@ -1,1 +1,2 @@
 // Tables of refusals, their answers and the laws of these: no code.
+#![tactic(auto)]

@@ -1,5 +1,6 @@
 // Makes the call of each case of the input, a run, a carry-on or a plain run, and writes what it answers and the tables
 // that it leaves. A run is made in two parts too, as often as the case says, and with fuel up to 1,000 on the plain engine.
+#![tactic(auto)]
 ghost use Rattle.std.specs.Prelude.{◌≤◌, length};
 
 use cases::answers::{cut_line, plain_line, run_line};

@@ -54,6 +54,7 @@ closes (there (there (there (there (there (there (there (here a)))))))) (next b 
     more (utf8_4_F1 a b c d) u
 closes (there (there (there (there (there (there (there (there (here a))))))))) (next b (next c (next d (done u)))) =
     more (utf8_4_F4 a b c d) u
+closes {b = b} {rs = rs} {s = s} (there (there (there (there (there (there (there (there (there x99))))))))) _ = elim x99 [ ]
 
 -- an octet starts a character only by a row that has it
 started : (rows : List OctetRow) {b : ℕ} {rs : List Range} → octet_start rows b ≡ wants rs → RowOf rows b rs
