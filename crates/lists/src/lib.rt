@@ -4,7 +4,7 @@ ghost use Rattle.std.specs.Prelude.{◌≡◌};
 ghost use Rattle.lists.specs.Lists.{same_bytes};
 
 // The index of a byte string among others, or that it is not there.
-#[derive(Drop)]
+#[derive(Clone, Copy)]
 pub enum Found {
     Index(usize),
     Nothing,

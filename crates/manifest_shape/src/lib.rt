@@ -10,7 +10,7 @@ use sizes::Size;
 use wire::Num;
 
 // Where parts of a manifest start.
-#[derive(Drop)]
+#[derive(Clone, Copy)]
 pub struct Layout {
     pub strings: usize,
     pub capabilities: usize,
@@ -19,7 +19,7 @@ pub struct Layout {
     pub exports: usize,
 }
 
-#[derive(Drop)]
+#[derive(Clone, Copy)]
 pub enum Manifest {
     Shape(Layout),
     Malformed,

@@ -7,14 +7,14 @@ use utf8::Utf8;
 use wire::{Num, Pos};
 
 // The position after what was read, or that it does not have the stated shape.
-#[derive(Drop)]
+#[derive(Clone, Copy)]
 pub enum Parsed {
     To(usize),
     Bad,
 }
 
 // What stands after a count.
-#[derive(Drop)]
+#[derive(Clone, Copy)]
 pub enum Kind {
     Text,
     Root,

@@ -4,7 +4,7 @@ ghost use Rattle.std.specs.Prelude.{◌≡◌};
 ghost use Rattle.sizes.specs.Sizes.{within};
 
 // The least and the most of something.
-#[derive(Drop)]
+#[derive(Clone, Copy)]
 pub struct Size {
     pub least: u64,
     pub most: u64,

@@ -4,7 +4,7 @@ ghost use Rattle.std.specs.Prelude.{◌≡◌, ◌≤◌};
 ghost use Rattle.utf8.specs.Check.{utf8_char, octet_start, octet_step, at_end, check};
 ghost use Rattle.utf8.specs.State.{tails, wanted, after_of, ascii_length};
 
-#[derive(Drop)]
+#[derive(Clone, Copy)]
 pub enum Utf8 {
     Valid,
     // The place of the first byte that cannot continue valid text; the length where the text ends inside a character.
@@ -12,14 +12,14 @@ pub enum Utf8 {
 }
 
 // What a character that was begun still wants: how many bytes, and the range of the next one. Those after it are tails.
-#[derive(Drop)]
+#[derive(Clone, Copy)]
 struct Want {
     left: u8,
     low: u8,
     high: u8,
 }
 
-#[derive(Drop)]
+#[derive(Clone, Copy)]
 enum Next {
     Go(Want),
     Stop,

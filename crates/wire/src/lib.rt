@@ -4,21 +4,21 @@ ghost use Rattle.std.specs.Prelude.{◌≡◌, ◌+◌, ◌^◌, ◌≤◌, ◌<
 ghost use Rattle.wire.specs.Wire.{big_endian, inside, span_end, span, number_at, holds_at, or_zero};
 
 // A number that was read, or that the slice ends before its last byte.
-#[derive(Drop)]
+#[derive(Clone, Copy)]
 pub enum Num {
     Value(u64),
     Short,
 }
 
 // A position in the slice, or that it lies past the end.
-#[derive(Drop)]
+#[derive(Clone, Copy)]
 pub enum Pos {
     At(usize),
     Past,
 }
 
 // A part of a slice: where it starts, and how many bytes it has.
-#[derive(Drop)]
+#[derive(Clone, Copy)]
 pub struct Part {
     pub start: usize,
     pub size: usize,
