@@ -17,7 +17,7 @@ use manifest_shape::parts::Parsed;
 use wire::Part;
 
 // What the index by name answers; specs/Exports.antt gives the paper's numbers for each case.
-#[derive(Drop)]
+#[derive(Clone, Copy)]
 pub enum IndexAnswer {
     // By 1 to 14, or 25.
     Refused(u32),

@@ -22,7 +22,7 @@ use wire::Part;
 pub mod exports;
 
 // What 1 to 14 find: where the two sections lie in the file, and where the parts of the manifest start in its section.
-#[derive(Drop)]
+#[derive(Clone, Copy)]
 pub struct Outline {
     pub manifest: Part,
     pub nodes: Part,
@@ -30,14 +30,14 @@ pub struct Outline {
 }
 
 // What checks come to: the number of the first that holds, or what was found.
-#[derive(Drop)]
+#[derive(Clone, Copy)]
 pub enum Verdict {
     Refused(u32),
     Passed(Outline),
 }
 
 // The same of the manifest alone.
-#[derive(Drop)]
+#[derive(Clone, Copy)]
 pub enum Checked {
     Refused(u32),
     Passed(Layout),

@@ -20,7 +20,7 @@ const SHA256: u64 = 1;
 const DIGEST: usize = 32;
 
 // What a directory entry says; the digest by its place.
-#[derive(Drop)]
+#[derive(Clone, Copy)]
 pub struct DirectoryEntry {
     pub kind: u64,
     pub flags: u64,
@@ -32,14 +32,14 @@ pub struct DirectoryEntry {
 }
 
 // What is found of one type: how many entries have it, and the first of them.
-#[derive(Drop)]
+#[derive(Clone, Copy)]
 pub struct TypeFound {
     pub times: u64,
     pub first: DirectoryEntry,
 }
 
 // What one walk over the directory finds.
-#[derive(Drop)]
+#[derive(Clone, Copy)]
 pub struct Survey {
     // Some entry is of unknown type and critical; is compressed, or with another digest algorithm; passes the end of the file.
     pub critical: bool,

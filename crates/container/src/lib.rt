@@ -11,14 +11,14 @@ mod directory;
 mod header;
 
 // Where the manifest and the nodes lie in the file.
-#[derive(Drop)]
+#[derive(Clone, Copy)]
 pub struct Sections {
     pub manifest: Part,
     pub nodes: Part,
 }
 
 // What the checks of the container come to: the number of the first that holds, or where the sections lie.
-#[derive(Drop)]
+#[derive(Clone, Copy)]
 pub enum Located {
     Refused(u32),
     At(Sections),

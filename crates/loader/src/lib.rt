@@ -17,7 +17,7 @@ use unpacking::exports::{ExportList, list_exports, put_exports};
 use unpacking::records::put_records;
 
 // What a load answers; specs/Answer.antt gives the paper's numbers for each case.
-#[derive(Drop)]
+#[derive(Clone, Copy)]
 pub enum LoadAnswer {
     // By 1 to 22.
     Refused(u32),

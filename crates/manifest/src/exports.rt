@@ -12,7 +12,7 @@ use sizes::Size;
 use wire::Num;
 
 // What can be wrong with an export.
-#[derive(Drop)]
+#[derive(Clone, Copy)]
 pub enum ExportFault {
     Abi,
     NameSize,

@@ -7,7 +7,7 @@ use crate::content::text_at;
 use manifest_shape::parts::{Parsed, sized_end};
 
 // After some strings, and whether all of them were as wanted.
-#[derive(Drop)]
+#[derive(Clone, Copy)]
 pub struct Walk {
     pub at: Parsed,
     pub same: bool,

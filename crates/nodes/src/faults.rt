@@ -9,7 +9,7 @@ use sha256::Running;
 use sizes::HASH;
 use wire::Pos;
 
-#[derive(Drop)]
+#[derive(Clone, Copy)]
 pub enum RecordFault {
     // The hash is wrong.
     Hash,

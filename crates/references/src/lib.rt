@@ -12,7 +12,7 @@ use manifest_shape::parts::{Parsed, sized_end};
 use wire::Num;
 
 // What names a hash.
-#[derive(Drop)]
+#[derive(Clone, Copy)]
 pub enum Reference {
     Root,
     Export,

@@ -16,7 +16,7 @@ use nodes::find::find_record;
 use references::{Reference, reference_end, reference_hash};
 
 // How many exports a manifest section lists, and where they stand: after their count.
-#[derive(Drop)]
+#[derive(Clone, Copy)]
 pub struct ExportList {
     pub count: u64,
     pub at: usize,

@@ -6,14 +6,14 @@ use Rattle.manifest_shape.proofs.head_end.Goals as goal
 
 pub returns-then-not-holds_at : goal.returns-then-not-holds_at
 unfolding head_end
-returns-then-not-holds_at c = rw (sym c.holds_at.ensures ∙ not-true _ c.if-not-holds_at.true)
+returns-then-not-holds_at c = rw (sym c.holds_at.ensures ∙ c.if-not-holds_at.true)
 
 pub returns-then-major-eq1 : goal.returns-then-major-eq1
 unfolding head_end
 returns-then-major-eq1 c =
     let magic = c in
     rw (
-      sym magic.holds_at.ensures ∙ not-false _ magic.if-not-holds_at.false,
+      sym magic.holds_at.ensures ∙ magic.if-not-holds_at.false,
       ← c.u16_at.ensures,
       c.in-Value.is,
       eq-eqb _ _ c.if-major-eq1.true,
@@ -24,7 +24,7 @@ unfolding head_end
 returns-else-major-eq1 c =
     let magic = c in
     rw (
-      sym magic.holds_at.ensures ∙ not-false _ magic.if-not-holds_at.false,
+      sym magic.holds_at.ensures ∙ magic.if-not-holds_at.false,
       ← c.u16_at.ensures,
       c.in-Value.is,
       ne_eqb _ _ c.if-major-eq1.false,
@@ -35,7 +35,7 @@ unfolding head_end
 returns-in-Short c =
     let magic = c in
     rw (
-      sym magic.holds_at.ensures ∙ not-false _ magic.if-not-holds_at.false,
+      sym magic.holds_at.ensures ∙ magic.if-not-holds_at.false,
       ← c.u16_at.ensures,
       c.in-Short.is,
     )
