@@ -1,6 +1,6 @@
 -- How many slots and places a run can want: by the fuel, as a step makes at most one node and adds at most one frame.
-use Prim.Native.Nat.{ℕ, zero, suc, ◌+◌, ◌-◌, ◌≤◌, ◌<◌}
-use mathlib.Core.Path.{◌≡◌, refl, sym, ap, ◌∙◌}
+use Prim.Native.Nat.{ℕ, zero, suc, ◌-◌, ◌≤◌}
+use mathlib.Core.Path.{◌≡◌, sym, ap, ◌∙◌}
 use mathlib.Core.Bool.{cond}
 use mathlib.Core.List.{List, [], ◌∷◌}
 use native.Mathlib.Omega.{arith}
@@ -11,7 +11,7 @@ use lib.ListN.{length, length-append, length-reverse}
 use Rattle.calculus.specs.Tree.{Tree}
 use Rattle.calculus.specs.Rules.{TreeFrame, operand, argument, function, TreeAction, make, give, go, push, tree_rule}
 use Rattle.calculus.specs.Machine.{MachineState, Stop, out_of_fuel, out_of_slots, out_of_places, MachineTurn, going, done, stop, machine_meet, machine_carry, machine_step}
-use Rattle.calculus.specs.Machine.{Ending, ended, stopped, Outcome, halted, proceed, run}
+use Rattle.calculus.specs.Machine.{Ending, ended, stopped, halted, proceed, run}
 use Rattle.calculus.specs.Laws.{WithinAllowance, AllowanceBounds}
 
 -- a turn from some frames, by what it makes and adds, or wants

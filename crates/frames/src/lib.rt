@@ -1,6 +1,7 @@
 // The lent frame table, the paper's job table: continuation frames of three words, oldest first. How many words a frame has, and
 // where they stand, is known here alone.
 #![tactic(auto)]
+
 ghost use Rattle.std.specs.Prelude.{◌≡◌, ◌≤◌, ◌<◌, drop};
 ghost use Rattle.frames.specs.Frames.{frame_room, frame_at, put_record, put_frame, drop_frame, cleared, FrameNames};
 ghost use Rattle.frames.specs.SoundFrames.{frame_sound, each_sound, all_zero, frames_sound};

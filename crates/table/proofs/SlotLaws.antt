@@ -11,12 +11,11 @@ use lib.ListN.{length, get_or, length-set}
 use lib.Seq.{get_or-set_same, get_or-set_other}
 use lib.Dec.{ltb}
 use lib.IntN.{ℤ, pos, negsuc, nat_abs}
-use borrow.Author.Tests.{lt-ltb, le-ltb, ltb-true}
-use Rattle.table.specs.declared.slots.Slot.{Slot}
+use borrow.Author.Tests.{lt-ltb, ltb-true}
 use Rattle.table.specs.declared.slots.Node.{Node}
 use Rattle.table.specs.declared.slots.Node.TheVariants.{Leaf, Stem, Fork}
 use Rattle.table.specs.Limits.{max_slots, at_most}
-use Rattle.table.specs.Slots.{width, slot, room, RoomIs, is_used, first_word, second_word, first_at, second_at}
+use Rattle.table.specs.Slots.{width, room, RoomIs, is_used, first_word, second_word, first_at, second_at}
 use Rattle.table.specs.Slots.{put_words, node_at, put_node, SameSlots}
 use Rattle.table.specs.Holds.{Words}
 

@@ -1,0 +1,16 @@
+-- A negative base, one past the end, and one in the table.
+use Rattle.table.proofs.Signed.{below_zero, not_below, cast_64}
+use Rattle.table.proofs.BaseLaws.{base_negative, base_past, base_in}
+use Rattle.table.proofs.base.Base.of.Goals as goal
+
+pub returns-then-base-lt0 : goal.returns-then-base-lt0
+returns-then-base-lt0 c = base_negative _ (below_zero _ c.ranges.base c.if-base-lt0.true)
+
+pub overflow_cast-at : goal.overflow_cast-at
+overflow_cast-at c = cast_64 _ c.ranges.base c.if-base-lt0.false
+
+pub returns-then-len-at : goal.returns-then-len-at
+returns-then-len-at c = base_past (not_below _ c.ranges.base c.if-base-lt0.false) c.if-len-at.true
+
+pub returns : goal.returns
+returns c = base_in (not_below _ c.ranges.base c.if-base-lt0.false) c.if-len-at.false
