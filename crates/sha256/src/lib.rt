@@ -1,5 +1,6 @@
 // SHA-256 (FIPS 180-4): a running hash by value, and the digest of a slice.
 #![tactic(auto)]
+
 ghost use Rattle.std.specs.Prelude.{◌≡◌, ◌+◌, ◌-◌, ◌≤◌, ◌++◌, length, take, replicate};
 ghost use Rattle.std.proofs.Math.Seq.{paste};
 ghost use Rattle.sha256_block.specs.Fips180.{sha256};
