@@ -1,5 +1,6 @@
 // SHA-256 (FIPS 180-4): a running hash by value, and the digest of a slice.
 #![tactic(auto)]
+
 ghost use Rattle.std.specs.Prelude.{◌≡◌, ◌+◌, ◌-◌, ◌≤◌, ◌++◌, length, take, replicate};
 ghost use Rattle.std.proofs.Math.Seq.{paste};
 ghost use Rattle.sha256_block.specs.Fips180.{sha256};
@@ -7,7 +8,7 @@ ghost use Rattle.sha256.specs.Running.{in_block, buffered, fresh, absorbed, fini
 
 // A hash of the bytes so far: the hash value after their whole blocks, the bytes since in the first places of the
 // block with zeros after them, and the count of bytes, modulo 2^64.
-#[derive(Drop)]
+#[derive(Clone, Copy)]
 pub struct Running {
     h: [u32; 8],
     block: [u8; 64],

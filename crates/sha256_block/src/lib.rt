@@ -1,5 +1,6 @@
 // SHA-256 block by block (FIPS 180-4, §6.2.2), and the length that the padding ends with.
 #![tactic(auto)]
+
 ghost use Rattle.std.specs.Prelude.{◌≡◌, ℕ, ◌+◌, ◌<◌, ◌≤◌, List, length, take};
 ghost use Rattle.sha256_block.specs.Fips180.{K, T1, T2, word_at, mixed, schedule, initial, round, rounds};
 ghost use Rattle.sha256_block.specs.Fips180.{combined, compress, hash_all, bytes_of, length_bytes};
@@ -24,7 +25,7 @@ const CONSTANTS: [u32; 64] = [
 ];
 
 // The working variables a to h.
-#[derive(Drop)]
+#[derive(Clone, Copy)]
 struct Work {
     a: u32,
     b: u32,
