@@ -1,9 +1,9 @@
 -- What comes of an answer: a refusal by its number, or what passes.
 use Prim.Native.Nat.{ℕ}
-use mathlib.Core.Path.{◌≡◌, refl, sym, ap, ◌∙◌}
+use mathlib.Core.Path.{◌≡◌, refl, sym, ap}
 use mathlib.Core.List.{List, [], ◌∷◌, ◌++◌}
 use mathlib.Core.Bool.{Bool, true, false, cond}
-use borrow.Author.Tests.{eq-eqb, ne_eqb, eqb-true, eqb-false}
+use borrow.Author.Tests.{ne_eqb, eqb-true, eqb-false}
 use lib.Dec.{eqb}
 use Rattle.refusals.specs.Refusals.{Row, ◌when◌, answer, unless_refused, Clear, Numbered}
 use Rattle.refusals.proofs.Rows.{accept, answer_clear}

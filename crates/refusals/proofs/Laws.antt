@@ -103,6 +103,7 @@ answers_in_turn rows later = (
 pub above_all : (rows : List Row) (m : ℕ) → Ascends m rows → (r : Row) → Among r rows → m < r.number
 above_all (r ∷ rs) m a r' here = a.0
 above_all (s ∷ rs) m a r (there i) = omega (arith, a.0, above_all rs s.number a.1 r i)
+above_all [] m a r' x' = elim x' [ ]
 
 lowest_from : (rows : List Row) (m : ℕ) → Ascends m rows → (r : Row) → Among r rows → r.holds ≡ true → answer rows ≤ r.number
 unfolding answer
@@ -112,6 +113,7 @@ lowest_from (s ∷ rs) m a r (there i) q = test s.holds refl (lowest_from rs s.n
     test : (b : Bool) → s.holds ≡ b → answer rs ≤ r.number → answer (s ∷ rs) ≤ r.number
     test true p rest = let k = above_all rs s.number a.1 r i in rw p (omega arith)
     test false p rest = rw p rest
+lowest_from [] m a r' x3 q = elim x3 [ ]
 
 pub first_is_lowest : FirstIsLowest
 first_is_lowest rows n a f r i q = rw (← first_answers f) (lowest_from rows 0 a r i q)
