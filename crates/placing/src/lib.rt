@@ -1,5 +1,6 @@
 // Gives records their slots: again and again the earliest unplaced record whose children are all placed gets the next one.
 #![tactic(auto)]
+
 ghost use Rattle.std.specs.Prelude.{◌≡◌, ◌+◌, ◌*◌, ◌≤◌, ◌<◌, length, set};
 ghost use Rattle.placing.specs.Placing.{settled, ready, earliest, Placed, placing, Links};
 
