@@ -1,5 +1,6 @@
 // The container of a bundle: its header, its directory, and where the two sections that it has to have lie (1 to 11).
 #![tactic(auto)]
+
 ghost use Rattle.std.specs.Prelude.{◌≡◌};
 ghost use Rattle.container.specs.Checks.{located};
 
