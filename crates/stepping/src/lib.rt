@@ -1,5 +1,6 @@
 // One step of a run: a rule, and the meeting of its tree with the newest frame.
 #![tactic(auto)]
+
 ghost use Rattle.std.specs.Prelude.{◌≡◌, ◌≤◌, ◌<◌};
 ghost use Rattle.table.specs.Limits.{max_slots};
 ghost use Rattle.stepping.specs.Step.{going, done, stop, met, meet, at, step};

@@ -7,7 +7,7 @@ ghost use Rattle.table.specs.Sound.{slot_sound, sound};
 use crate::limits::Limit;
 
 // A slot's number, as wide as an index: two narrower ones would share a register in the run's loop.
-#[derive(Drop)]
+#[derive(Clone, Copy)]
 pub struct Slot(pub usize);
 
 // What a slot holds: the slots of a node's children.
