@@ -4,6 +4,7 @@
 use bundle::exports::IndexAnswer;
 use cases::files::{line_end, read_file};
 use cases::output::{decimal, hex, size, text};
+use std::fs::Files;
 
 // The line of an export: its index, and its name's place in the file, length and bytes.
 fn show_name(i: u32, start: usize, name: &[u8]) {
@@ -69,24 +70,24 @@ fn show_bundle(name: &[u8], file: &[u8]) {
 }
 
 // The bundle in the file of that name; a byte more than is read of the largest.
-fn show_file(name: &[u8]) {
+fn show_file(rt: &impl Files, name: &[u8]) {
     let mut bytes: [u8; 65538] = [0; 65538];
-    let n = read_file(name, &mut bytes);
+    let n = read_file(rt, name, &mut bytes);
     show_bundle(name, &bytes[..n]);
 }
 
 // The files whose names stand in s, one to a line.
-fn show_files(s: &[u8]) {
+fn show_files(rt: &impl Files, s: &[u8]) {
     let mut at = 0;
     while at < s.len() {
         let end = line_end(s, at);
-        show_file(&s[at..end]);
+        show_file(rt, &s[at..end]);
         at = end + 1;
     }
 }
 
-fn main() {
+fn main(rt: HostRuntime) {
     let mut names = io::large_buffer();
     let n = io::read_full(0, &mut names);
-    show_files(&names[..n]);
+    show_files(&rt, &names[..n]);
 }

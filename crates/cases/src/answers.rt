@@ -1,6 +1,5 @@
 // The lines of what runs answer.
-use crate::output::{decimal, text};
-use libc::STDOUT_FILENO;
+use crate::output::{STDOUT, decimal, text};
 
 // A slot of an answer; none is negative.
 fn slot(i: i32) {
@@ -8,7 +7,7 @@ fn slot(i: i32) {
         text(b"negative");
         return;
     }
-    io::print_decimal(STDOUT_FILENO, i as u64);
+    io::print_decimal(STDOUT, i as u64);
 }
 
 // The paper's numbers of a run; those that an answer does not name are 0.

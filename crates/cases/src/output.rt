@@ -1,21 +1,23 @@
 // What is written to standard output.
-use libc::STDOUT_FILENO;
+
+// The descriptor of standard output.
+pub(crate) const STDOUT: i32 = 1;
 
 pub fn text(t: &[u8]) {
-    io::write_all(STDOUT_FILENO, t);
+    io::write_all(STDOUT, t);
 }
 
 // A number in decimal; one function for each width.
 pub fn decimal(n: u32) {
-    io::print_decimal(STDOUT_FILENO, n as u64);
+    io::print_decimal(STDOUT, n as u64);
 }
 
 pub fn size(n: usize) {
-    io::print_decimal(STDOUT_FILENO, n as u64);
+    io::print_decimal(STDOUT, n as u64);
 }
 
 pub fn long(n: u64) {
-    io::print_decimal(STDOUT_FILENO, n);
+    io::print_decimal(STDOUT, n);
 }
 
 fn wide(b: u8) -> u64 {
@@ -26,7 +28,7 @@ fn wide(b: u8) -> u64 {
 pub fn hex(t: &[u8]) {
     let mut i = 0;
     while i < t.len() {
-        io::print_hex(STDOUT_FILENO, wide(t[i]), 2);
+        io::print_hex(STDOUT, wide(t[i]), 2);
         i += 1;
     }
 }

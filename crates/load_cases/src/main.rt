@@ -10,6 +10,7 @@ use cases::output::{decimal, hex, show_table, size, text};
 use engine::RunAnswer;
 use loader::LoadAnswer;
 use sha256::Running;
+use std::fs::Files;
 use std::num::{wrapping_add_u32, wrapping_add_usize};
 
 // A signed number as it is sent, with 2^31 added.
@@ -132,17 +133,17 @@ fn show_loaded(a: LoadAnswer) -> u32 {
 }
 
 // The bundle in the file of that name; a byte more than is read of the largest.
-fn load_file(name: &[u8], words: &mut [u32], base: i32, exports: &mut [u32]) -> LoadAnswer {
+fn load_file(rt: &impl Files, name: &[u8], words: &mut [u32], base: i32, exports: &mut [u32]) -> LoadAnswer {
     let mut bytes: [u8; 65538] = [0; 65538];
-    let n = read_file(name, &mut bytes);
+    let n = read_file(rt, name, &mut bytes);
     loader::load(&bytes[..n], words, base, exports)
 }
 
-fn show_load(name: &[u8], words: &mut [u32], base: u32, exports: &mut [u32]) -> u32 {
+fn show_load(rt: &impl Files, name: &[u8], words: &mut [u32], base: u32, exports: &mut [u32]) -> u32 {
     show_asked(name, words.len(), base, exports.len());
     fill(words, 0xA5000000);
     fill(exports, 0xE5000000);
-    let used = show_loaded(load_file(name, words, signed(base), exports));
+    let used = show_loaded(load_file(rt, name, words, signed(base), exports));
     let n = before(base, words.len());
     show_table(b"exports", exports);
     show_digest(b"before", &words[0..n]);
@@ -224,6 +225,7 @@ fn show_runs(words: &mut [u32], base: u32, s: &[u8], start: usize, runs: u32, no
 
 // A load, and the runs whose count stands at a place of the input; answers the place after them.
 fn show_play(
+    rt: &impl Files,
     name: &[u8],
     words: &mut [u32],
     base: u32,
@@ -231,13 +233,13 @@ fn show_play(
     s: &[u8],
     at: usize,
 ) -> usize {
-    let nodes = show_load(name, words, base, exports);
+    let nodes = show_load(rt, name, words, base, exports);
     show_runs(words, base, s, behind(at, 1), number(s, at), nodes)
 }
 
 // A case: the file's name after its length, the table's length, the base, the export table's length, the runs after their
 // count. Answers where the next case stands.
-fn show_case(s: &[u8], at: usize) -> usize {
+fn show_case(rt: &impl Files, s: &[u8], at: usize) -> usize {
     let mut words: [u32; 2200] = [0; 2200];
     let mut exports: [u32; 40] = [0; 40];
     let start = within(behind(at, 1), 0, s.len());
@@ -250,6 +252,7 @@ fn show_case(s: &[u8], at: usize) -> usize {
     let base = number(s, behind(end, 1));
     let m = at_most(number(s, behind(end, 2)), 40);
     show_play(
+        rt,
         &s[start..end],
         &mut words[0..n],
         base,
@@ -259,10 +262,10 @@ fn show_case(s: &[u8], at: usize) -> usize {
     )
 }
 
-fn show_cases(s: &[u8]) {
+fn show_cases(rt: &impl Files, s: &[u8]) {
     let mut at = 0;
     while at < s.len() {
-        let next = show_case(s, at);
+        let next = show_case(rt, s, at);
         if next <= at {
             return;
         }
@@ -270,8 +273,8 @@ fn show_cases(s: &[u8]) {
     }
 }
 
-fn main() {
+fn main(rt: HostRuntime) {
     let mut buf = io::large_buffer();
     let n = io::read_full(0, &mut buf);
-    show_cases(&buf[..n]);
+    show_cases(&rt, &buf[..n]);
 }
