@@ -162,6 +162,9 @@ module _ (rs : List NodeRecord) where
   among_link one here = inl refl
   among_link two here = inl refl
   among_link two (there here) = inr refl
+  among_link none a = elim a [ ]
+  among_link one (there a) = elim a [ ]
+  among_link two (there (there a)) = elim a [ ]
 
   pub child_link : (i : ℕ) → i < length rs → {h : List ℕ} → Among h (children_at rs i) → Among h (hashes rs) →
       (j : ℕ) × (j < length rs) × (hash_at rs j ≡ h) × ChildLink (links_of rs) i j

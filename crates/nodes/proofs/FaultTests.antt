@@ -24,6 +24,7 @@ module _ (all : List NodeRecord) where
   unfolding lacks
   lacks_not (g ∷ hs) e h here = found_among h 0 (hashes all) (only_first (found (index_of h 0 (hashes all))) _ e).0
   lacks_not (g ∷ hs) e h (there a) = lacks_not hs (only_first (found (index_of g 0 (hashes all))) _ e).1 h a
+  lacks_not [] e h x' = elim x' [ ]
 
   not_lacks : (hs : List (List ℕ)) → ((h : List ℕ) → Among h hs → Among h (hashes all)) → lacks all hs ≡ false
   unfolding lacks
