@@ -17,7 +17,7 @@ use table::slots::Slot;
 pub mod admission;
 
 // What a run answers; specs/Answer.antt gives the paper's numbers for each case.
-#[derive(Drop)]
+#[derive(Clone, Copy)]
 pub enum RunAnswer {
     // By 21, 23 or 24; a carry-on by 40 too.
     Refused(u32),
@@ -38,7 +38,7 @@ pub enum RunAnswer {
 }
 
 // How a run begins.
-#[derive(Drop)]
+#[derive(Clone, Copy)]
 pub enum From {
     Scratch,
     // With the frames that wait and the steps that were taken before.

@@ -11,7 +11,7 @@ use table::limits::Limit;
 use table::slots::Slot;
 
 // What is done with the tree that comes next.
-#[derive(Drop)]
+#[derive(Clone, Copy)]
 pub enum Frame {
     // The tree is the function, and its operand is the first slot applied to the second.
     Operand(Slot, Slot),

@@ -12,7 +12,7 @@ use table::base::Base;
 use table::slots::Slot;
 
 // What the plain engine answers; specs/Answer.antt gives the paper's numbers for each case.
-#[derive(Drop)]
+#[derive(Clone, Copy)]
 pub enum PlainAnswer {
     // By 21, 23, 24 or 49.
     Refused(u32),

@@ -13,7 +13,7 @@ use table::slots::{Node, Slot, node_at};
 mod rules;
 
 // Slot f is to be applied to slot x; so many slots are used, and so many frames wait.
-#[derive(Drop)]
+#[derive(Clone, Copy)]
 pub struct State {
     pub f: Slot,
     pub x: Slot,
@@ -22,7 +22,7 @@ pub struct State {
 }
 
 // What a step came to.
-#[derive(Drop)]
+#[derive(Clone, Copy)]
 pub enum Status {
     Going,
     Done,
@@ -31,7 +31,7 @@ pub enum Status {
 }
 
 // The state after a step; if that is the last, f is the result.
-#[derive(Drop)]
+#[derive(Clone, Copy)]
 pub struct Turn {
     pub status: Status,
     pub state: State,

@@ -3,7 +3,7 @@ ghost use Rattle.std.specs.Prelude.{◌≡◌};
 ghost use Rattle.table.specs.Base.{base_of};
 
 // Whether a base is in the table: our part is the words from it on.
-#[derive(Drop)]
+#[derive(Clone, Copy)]
 pub enum Base {
     At(usize),
     Outside,

@@ -3,7 +3,7 @@ ghost use Rattle.std.specs.Prelude.{◌≡◌};
 ghost use Rattle.table.specs.Limits.{at_most};
 
 // A most that document 01 sets.
-#[derive(Drop)]
+#[derive(Clone, Copy)]
 pub struct Limit(pub u32);
 
 impl Limit {

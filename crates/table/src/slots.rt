@@ -11,7 +11,7 @@ use crate::limits::Limit;
 pub struct Slot(pub usize);
 
 // What a slot holds: the slots of a node's children.
-#[derive(Drop)]
+#[derive(Clone, Copy)]
 pub enum Node {
     Leaf,
     Stem(Slot),

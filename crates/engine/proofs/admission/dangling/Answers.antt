@@ -1,0 +1,16 @@
+-- f is no used slot, or x is tested.
+use Rattle.table.proofs.Signed.{as_passed}
+use Rattle.engine.proofs.AdmissionLaws.{dangling_f, dangling_x}
+use Rattle.engine.proofs.admission.dangling.Goals as goal
+
+pub returns-then-not-known : goal.returns-then-not-known
+returns-then-not-known c =
+    let fits = c.ranges in
+    dangling_f _ _ _ _ (as_passed _ fits.f) _ c.is_used-known.ensures c.if-not-known.true
+
+pub returns : goal.returns
+returns c =
+    let test = c in
+    let fits = test.ranges in
+    dangling_x _ _ _ _ (as_passed _ fits.f) _ test.is_used-known.ensures test.if-not-known.false _ (as_passed _ fits.x) _
+    c.is_used.ensures

@@ -1,0 +1,8 @@
+-- A cleared table, or the one that was lent.
+use Rattle.engine.proofs.begin.Goals as goal
+
+pub returns-in-Scratch : goal.returns-in-Scratch
+returns-in-Scratch c =
+    let told = c in
+    let from = told.in-Scratch.is in
+    (rw from c.clear.ensures, rw from)

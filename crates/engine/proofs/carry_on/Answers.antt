@@ -1,0 +1,9 @@
+-- The slots are passed on as they came.
+use Rattle.table.proofs.Signed.{as_passed}
+use Rattle.engine.proofs.carry_on.Goals as goal
+
+pub returns : goal.returns
+returns c =
+    let called = c in
+    let fits = called.ranges in
+    rw (as_passed _ fits.base, as_passed _ fits.f, as_passed _ fits.x) at called.run_from.ensures

@@ -1,0 +1,9 @@
+-- Each case moves the place on.
+use Rattle.std.proofs.Common.{◌-◌, ◌≤◌, length}
+use Rattle.utf8_vectors.proofs.show_cases.Given as goal
+
+abbrev pub invariant-loop-at : goal.invariant-loop-at
+invariant-loop-at l = (l.at ≤ length l.s)
+
+abbrev pub decreases-loop-at : goal.decreases-loop-at
+decreases-loop-at l = length l.s - l.at
