@@ -1,6 +1,7 @@
 // One application of the plain engine, by the seven rules: one part applies, the other carries out what the rule left. A job that would
 // wait in a table waits on the stack, and is counted.
 #![tactic(auto)]
+
 ghost use Rattle.std.specs.Prelude.{◌≡◌, ◌-◌, ◌<◌};
 ghost use Rattle.table.specs.Limits.{max_slots};
 ghost use Rattle.table.specs.Slots.{room, node_at, Below};
