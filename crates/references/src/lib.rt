@@ -1,5 +1,6 @@
 // The hashes that roots and exports name: 20.
 #![tactic(auto)]
+
 ghost use Rattle.std.specs.Prelude.{◌≡◌};
 ghost use Rattle.manifest_shape.specs.declared.Manifest.TheVariants.{Shape};
 ghost use Rattle.manifest_shape.specs.Shape.{manifest_of};
