@@ -1,6 +1,7 @@
 // The run call applies a slot of a lent word table to another, with an allowance of steps; the carry-on call goes on with a run that
 // stopped.
 #![tactic(auto)]
+
 ghost use Rattle.std.specs.Prelude.{◌≡◌, ◌+◌, ◌<◌, ◌^◌};
 ghost use Rattle.table.specs.Limits.{max_slots};
 ghost use Rattle.stepping.specs.Ready.{Runnable, Waits};

@@ -3,6 +3,5 @@ use Rattle.engine.proofs.begin.Goals as goal
 
 pub returns-in-Scratch : goal.returns-in-Scratch
 returns-in-Scratch c =
-    let told = c in
-    let from = told.in-Scratch.is in
+    let from = c.in-Scratch.is in
     (rw from c.clear.ensures, rw from)

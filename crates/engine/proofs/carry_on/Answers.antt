@@ -4,6 +4,5 @@ use Rattle.engine.proofs.carry_on.Goals as goal
 
 pub returns : goal.returns
 returns c =
-    let called = c in
-    let fits = called.ranges in
-    rw (as_passed _ fits.base, as_passed _ fits.f, as_passed _ fits.x) at called.run_from.ensures
+    let fits = c.ranges in
+    rw (as_passed _ fits.base, as_passed _ fits.f, as_passed _ fits.x) at c.run_from.ensures

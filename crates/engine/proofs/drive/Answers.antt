@@ -18,80 +18,66 @@ step-turn-requires c = let inv = c.loop-rest.invariant in (inv.ready, inv.waits)
 
 pub spend-rest-requires : goal.spend-rest-requires
 spend-rest-requires c =
-    let test = c in
-    let inv = test.loop-rest.invariant in
-    let pre = test.requires in
-    (some_left inv test.loop-rest-test.true, omega (arith, inv.sum, pre.2))
+    let inv = c.loop-rest.invariant in
+    let pre = c.requires in
+    (some_left inv c.loop-rest-test.true, omega (arith, inv.sum, pre.2))
 
 pub loop-rest-smaller : goal.loop-rest-smaller
 loop-rest-smaller c =
-    let test = c in
-    omega (arith, some_left test.loop-rest.invariant test.loop-rest-test.true, c.spend-rest.ensures.0)
+    omega (arith, some_left c.loop-rest.invariant c.loop-rest-test.true, c.spend-rest.ensures.0)
 
 pub loop-rest-preserved : goal.loop-rest-preserved
 loop-rest-preserved c =
-    let stepped = c in
-    let test = stepped in
-    let inv = test.loop-rest.invariant in
-    let e = stepped.step-turn.ensures in
+    let inv = c.loop-rest.invariant in
+    let e = c.step-turn.ensures in
     let left = step_left _ _ _ inv.ready inv.waits _ _ _ e in
     record {
       same =
           rw (c.spend-rest.ensures.0, c.spend-rest.ensures.1)
-          (drive_going _ _ _ _ _ _ _ _ (some_left inv test.loop-rest-test.true) e c.in-Going.is ∙ inv.same);
+          (drive_going _ _ _ _ _ _ _ _ (some_left inv c.loop-rest-test.true) e c.in-Going.is ∙ inv.same);
       ready = left.0;
       waits = left.1;
-      sum = omega (arith, inv.sum, some_left inv test.loop-rest-test.true, c.spend-rest.ensures.0, c.spend-rest.ensures.1);
-      words_long = stepped.step-turn.auto.0 ∙ inv.words_long;
-      jobs_long = stepped.step-turn.auto.1.0 ∙ inv.jobs-long;
+      sum = omega (arith, inv.sum, some_left inv c.loop-rest-test.true, c.spend-rest.ensures.0, c.spend-rest.ensures.1);
+      words_long = c.step-turn.auto.words ∙ inv.words_long;
+      jobs_long = c.step-turn.auto.jobs ∙ inv.jobs_long;
     }
 
 pub spend-last-requires : goal.spend-last-requires
 spend-last-requires c =
-    let test = c in
-    let inv = test.loop-rest.invariant in
-    let pre = test.requires in
-    (some_left inv test.loop-rest-test.true, omega (arith, inv.sum, pre.2))
+    let inv = c.loop-rest.invariant in
+    let pre = c.requires in
+    (some_left inv c.loop-rest-test.true, omega (arith, inv.sum, pre.2))
 
 pub finished-requires : goal.finished-requires
 finished-requires c =
-    let stepped = c in
-    let inv = stepped.loop-rest.invariant in
-    (slots_below _ _ (step_left _ _ _ inv.ready inv.waits _ _ _ stepped.step-turn.ensures).0).0
+    let inv = c.loop-rest.invariant in
+    (slots_below _ _ (step_left _ _ _ inv.ready inv.waits _ _ _ c.step-turn.ensures).0).0
 
 pub returns-in-Done : goal.returns-in-Done
 returns-in-Done c =
-    let stepped = c in
-    let test = stepped in
-    drive_done _ _ _ _ _ _ _ _ (some_left test.loop-rest.invariant test.loop-rest-test.true) stepped.step-turn.ensures _ c.in-Done.is
+    drive_done _ _ _ _ _ _ _ _ (some_left c.loop-rest.invariant c.loop-rest-test.true) c.step-turn.ensures _ c.in-Done.is
     c.spend-last.ensures.1 c.finished.ensures
-    ∙ test.loop-rest.invariant.same
+    ∙ c.loop-rest.invariant.same
 
 pub stopped-requires : goal.stopped-requires
 stopped-requires c =
-    let stepped = c in
-    slots_below _ _ stepped.loop-rest.invariant.ready
+    slots_below _ _ c.loop-rest.invariant.ready
 
 pub returns-in-OutOfSlots : goal.returns-in-OutOfSlots
 returns-in-OutOfSlots c =
-    let stepped = c in
-    let test = stepped in
-    drive_no_slot _ _ _ _ _ _ _ _ (some_left test.loop-rest.invariant test.loop-rest-test.true) stepped.step-turn.ensures _ c.in-OutOfSlots.is
+    drive_no_slot _ _ _ _ _ _ _ _ (some_left c.loop-rest.invariant c.loop-rest-test.true) c.step-turn.ensures _ c.in-OutOfSlots.is
     c.stopped.ensures
-    ∙ test.loop-rest.invariant.same
+    ∙ c.loop-rest.invariant.same
 
 pub stopped-requires-in-OutOfPlaces : goal.stopped-requires-in-OutOfPlaces
 stopped-requires-in-OutOfPlaces c =
-    let stepped = c in
-    slots_below _ _ stepped.loop-rest.invariant.ready
+    slots_below _ _ c.loop-rest.invariant.ready
 
 pub returns-in-OutOfPlaces : goal.returns-in-OutOfPlaces
 returns-in-OutOfPlaces c =
-    let stepped = c in
-    let test = stepped in
-    drive_no_place _ _ _ _ _ _ _ _ (some_left test.loop-rest.invariant test.loop-rest-test.true) stepped.step-turn.ensures _ c.in-OutOfPlaces.is
+    drive_no_place _ _ _ _ _ _ _ _ (some_left c.loop-rest.invariant c.loop-rest-test.true) c.step-turn.ensures _ c.in-OutOfPlaces.is
     c.stopped-in-OutOfPlaces.ensures
-    ∙ test.loop-rest.invariant.same
+    ∙ c.loop-rest.invariant.same
 
 pub stopped-requires-2 : goal.stopped-requires-2
 stopped-requires-2 c = slots_below _ _ c.loop-rest.invariant.ready

@@ -7,32 +7,26 @@ use Rattle.engine.proofs.run_from.Goals as goal
 
 pub offset_bounds-words-at : goal.offset_bounds-words-at
 offset_bounds-words-at c =
-    let told = c in
-    let inside = base_told _ _ _ told.of.ensures c.in-At.is in
+    let inside = base_told _ _ _ c.of.ensures c.in-At.is in
     search (rules, inside)
 
 pub slice_bounds-run_tail-count : goal.slice_bounds-run_tail-count
 slice_bounds-run_tail-count c =
-    let told = c in
-    let inside = base_told _ _ _ told.of.ensures c.in-At.is in
+    let inside = base_told _ _ _ c.of.ensures c.in-At.is in
     search (rules, inside)
 
 pub slice_bounds-run_tail-start : goal.slice_bounds-run_tail-start
 slice_bounds-run_tail-start c =
-    let told = c in
-    let inside = base_told _ _ _ told.of.ensures c.in-At.is in
+    let inside = base_told _ _ _ c.of.ensures c.in-At.is in
     search (rules, inside)
 
 pub returns-in-Outside : goal.returns-in-Outside
 returns-in-Outside c =
-    let told = c in
-    let fits = told.ranges in
-    run_outside _ _ _ _ _ _ _ _ _ (as_passed _ fits.base) _ told.of.ensures c.in-Outside.is
+    let fits = c.ranges in
+    run_outside _ _ _ _ _ _ _ _ _ (as_passed _ fits.base) _ c.of.ensures c.in-Outside.is
 
 pub returns-in-At : goal.returns-in-At
 returns-in-At c =
-    let at = c in
-    let told = at in
-    let fits = told.ranges in
-    run_behind _ _ _ _ _ _ _ _ _ (as_passed _ fits.base) _ told.of.ensures _ at.in-At.is
+    let fits = c.ranges in
+    run_behind _ _ _ _ _ _ _ _ _ (as_passed _ fits.base) _ c.of.ensures _ c.in-At.is
     _ _ (as_passed _ fits.f) (as_passed _ fits.x) _ _ _ c.run_tail.ensures

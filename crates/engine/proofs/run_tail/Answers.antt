@@ -7,31 +7,25 @@ use Rattle.engine.proofs.run_tail.Goals as goal
 
 pub returns-then-number-ne0 : goal.returns-then-number-ne0
 returns-then-number-ne0 c =
-    let told = c in
-    let fits = told.ranges in
-    tail_refused _ _ _ _ _ _ _ _ _ (as_passed _ fits.f) (as_passed _ fits.x) _ told.refusal-number.ensures c.if-number-ne0.true
+    let fits = c.ranges in
+    tail_refused _ _ _ _ _ _ _ _ _ (as_passed _ fits.f) (as_passed _ fits.x) _ c.refusal-number.ensures c.if-number-ne0.true
 
 pub named-requires : goal.named-requires
 named-requires c =
-    let told = c in
-    let fits = told.ranges in
-    rw (as_passed _ fits.f) (tail_slots _ _ _ _ _ _ _ _ _ (as_passed _ fits.f) (as_passed _ fits.x) _ told.refusal-number.ensures c.if-number-ne0.false).0
+    let fits = c.ranges in
+    rw (as_passed _ fits.f) (tail_slots _ _ _ _ _ _ _ _ _ (as_passed _ fits.f) (as_passed _ fits.x) _ c.refusal-number.ensures c.if-number-ne0.false).0
 
 pub named-requires-2 : goal.named-requires-2
 named-requires-2 c =
-    let told = c in
-    let fits = told.ranges in
-    rw (as_passed _ fits.x) (tail_slots _ _ _ _ _ _ _ _ _ (as_passed _ fits.f) (as_passed _ fits.x) _ told.refusal-number.ensures c.if-number-ne0.false).1
+    let fits = c.ranges in
+    rw (as_passed _ fits.x) (tail_slots _ _ _ _ _ _ _ _ _ (as_passed _ fits.f) (as_passed _ fits.x) _ c.refusal-number.ensures c.if-number-ne0.false).1
 
 pub drive-requires : goal.drive-requires
 drive-requires c =
-    let told = c in
-    let fits = told.ranges in
-    let places = c in
-    let begun = places in
+    let fits = c.ranges in
     let good
-    = tail_ready _ _ _ _ _ _ _ _ _ (as_passed _ fits.f) (as_passed _ fits.x) _ told.refusal-number.ensures begun.if-number-ne0.false _ _ places.named.ensures places.named-2.ensures
-    _ begun.begin-waiting.ensures.0 _ begun.begin-waiting.ensures.1
+    = tail_ready _ _ _ _ _ _ _ _ _ (as_passed _ fits.f) (as_passed _ fits.x) _ c.refusal-number.ensures c.if-number-ne0.false _ _ c.named.ensures c.named-2.ensures
+    _ c.begin-waiting.ensures.0 _ c.begin-waiting.ensures.1
     in (
       good.0,
       good.1,
@@ -40,11 +34,7 @@ drive-requires c =
 
 pub returns : goal.returns
 returns c =
-    let told = c in
-    let fits = told.ranges in
-    let new = c in
-    let places = new in
-    let begun = places in
-    tail_started _ _ _ _ _ _ _ _ _ (as_passed _ fits.f) (as_passed _ fits.x) _ told.refusal-number.ensures begun.if-number-ne0.false _ _ places.named.ensures places.named-2.ensures
-    _ begun.begin-waiting.ensures.0 _ begun.begin-waiting.ensures.1 _ _ new.new.ensures.0 (new.new.ensures.1 ∙ new.steps.ensures) _
+    let fits = c.ranges in
+    tail_started _ _ _ _ _ _ _ _ _ (as_passed _ fits.f) (as_passed _ fits.x) _ c.refusal-number.ensures c.if-number-ne0.false _ _ c.named.ensures c.named-2.ensures
+    _ c.begin-waiting.ensures.0 _ c.begin-waiting.ensures.1 _ _ c.new.ensures.0 (c.new.ensures.1 ∙ c.steps.ensures) _
     c.drive.ensures
