@@ -1,5 +1,6 @@
 // The plain engine, to compare the run call with: what refuses a run of it, and one application on the stack.
 #![tactic(auto)]
+
 ghost use Rattle.std.specs.Prelude.{◌≡◌, List, ℕ};
 ghost use Rattle.refusals.specs.Refusals.{answer};
 ghost use Rattle.applying.specs.Apply.{came};
