@@ -1,6 +1,7 @@
 // Makes the call of each case of the input, a run, a carry-on or a plain run, and writes what it answers and the tables
 // that it leaves. A run is made in two parts too, as often as the case says, and with fuel up to 1,000 on the plain engine.
 #![tactic(auto)]
+
 ghost use Rattle.std.specs.Prelude.{◌≤◌, length};
 
 use cases::answers::{cut_line, plain_line, run_line};
@@ -39,7 +40,7 @@ fn fill(table: &mut [u32], s: &[u8], at: usize)
 
 // A case: where its tables stand, and what is asked. A carry-on where call is 1; a plain run where it is 2, and then
 // waiting is the job room; else a run, and then steps is how often it is cut.
-#[derive(Drop)]
+#[derive(Clone, Copy)]
 struct Case {
     words_at: usize,
     jobs_at: usize,
@@ -175,7 +176,7 @@ fn show_cuts(words: &[u32], jobs: &[u32], s: &[u8], a: Case)
 }
 
 // What the run call and the plain engine answer alike.
-#[derive(Drop)]
+#[derive(Clone, Copy)]
 struct Ending {
     number: u32,
     slot: i32,
