@@ -1,5 +1,6 @@
 // Checks a bundle: the refusals 1 to 20 of document 01, in their order, and the two calls on exports.
 #![tactic(auto)]
+
 ghost use Rattle.std.specs.Prelude.{◌≡◌, true};
 ghost use Rattle.refusals.specs.Refusals.{answer};
 ghost use Rattle.manifest_shape.specs.declared.Manifest.TheVariants.{Shape};
