@@ -11,6 +11,7 @@ module _ {A : Type 0} (one : A → List ℕ) (all : List A → List (List ℕ)) 
   of_each : (xs : List A) → ((b : List ℕ) → Among b (all xs) → P b) → (x : A) → Among x xs → P (one x)
   of_each (y ∷ xs) h x here = h (one y) (rw more here)
   of_each (y ∷ xs) h x (there a) = of_each xs (λ b k. h b (rw more (there k))) x a
+  of_each [] h x x4 = elim x4 [ ]
 
   first_or_later : {b c : List ℕ} {bs : List (List ℕ)} → Among b (c ∷ bs) → P c → (Among b bs → P b) → P b
   first_or_later here p later = p

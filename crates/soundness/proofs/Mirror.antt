@@ -31,7 +31,7 @@ module _ (kind : ℕ) where
       go true q rest = (e, here, eqb-true _ _ q)
       go false q rest = let (x, a, k) = rest (rw q at h) in (x, there a, k)
 
-  counted_some : {es : List Entry} {e : Entry} → Among e es → e.kind ≡ kind → 0 < count kind es
+  counted_some : {e : Entry} {es : List Entry} → Among e es → e.kind ≡ kind → 0 < count kind es
   unfolding count
   counted_some {e = e} here k = rw (eq-eqb e.kind kind k) (omega arith)
   counted_some (there {y = y} {xs = xs} a) k = go (eqb y.kind kind) (counted_some a k)
@@ -67,12 +67,14 @@ module _ (file : List ℕ) where
     unfolding entries_from read_entries
     each_forth (suc n) p f e here = (same p).0 (f (entry_at file p) here)
     each_forth (suc n) p f e (there a) = each_forth n (p + 60) (λ x b. f x (there b)) e a
+    each_forth zero p f e x' = elim x' [ ]
 
     each_back : (n p : ℕ) → ((e : Entry) → Among e (read_entries file n p) → P e) →
         (e : Read) → Among e (entries_from file n p) → Q e
     unfolding entries_from read_entries
     each_back (suc n) p f e here = (same p).1 (f (read_entry file p) here)
     each_back (suc n) p f e (there a) = each_back n (p + 60) (λ x b. f x (there b)) e a
+    each_back zero p f e x' = elim x' [ ]
 
     pub each_mirrored : ((e : Read) → Among e (entries file) → Q e) ↔ ((e : Entry) → Among e (read_directory file) → P e)
     unfolding entries section_count read_header
@@ -123,6 +125,7 @@ module _ (file : List ℕ) where
         go true q some rest =
             let l : suc (count kind (read_entries file n (p + 60))) ≤ 1 = rw q at h in absurd (omega arith)
         go false q some rest = rw q (rest (rw q at h))
+    entry_from zero p e x3 k h = elim x3 [ ]
 
     module _ (e : Entry) (a : Among e (read_directory file)) (k : e.kind ≡ kind) (h : occurrences kind (entries file) ≤ 1) where
       pub entry_mirrored : ((entry_of kind (entries file)).offset ≡ e.offset) × ((entry_of kind (entries file)).size ≡ e.size)

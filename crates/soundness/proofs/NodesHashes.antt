@@ -41,6 +41,7 @@ each_payload : {r : NodeRecord} {rs : List NodeRecord} {b : List ℕ} → Sequen
     IsPayload (children r) r.payload
 each_payload (next i s) here = record_payload i
 each_payload (next i s) (there a) = each_payload s a
+each_payload {r = r} Rattle.wire.specs.Relations.none x4 = elim x4 [ ]
 
 pub node_payload : {r : NodeRecord} {rs : List NodeRecord} {s : List ℕ} → IsNodes rs s → Among r rs → IsPayload (children r) r.payload
 node_payload (nodes n l m q) a = each_payload q a

@@ -57,6 +57,7 @@ leaf_shorter (next {a = a} {b = b} i s) here k =
     omega (arith, length-append a b, record_length i, payload_length k, records_most s)
 leaf_shorter (next {a = a} {b = b} i s) (there m) k =
     omega (arith, length-append a b, record_most i, leaf_shorter s m k)
+leaf_shorter {r = r} none x7 k = elim x7 [ ]
 
 -- where a hash names a tree, a leaf's record is there
 leaf_among : {rs : List NodeRecord} {h : List ℕ} {t : Tree} → Names rs h t → (r : NodeRecord) × Among r rs × IsPayload [] r.payload

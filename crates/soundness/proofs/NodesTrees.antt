@@ -70,6 +70,7 @@ module _ (rs : List NodeRecord) {s : List ℕ} (are : IsNodes rs s) (closed : Cl
             let (t, n) = f a here in
             let (u, m) = f b (there here) in
             (fork t u, names_fork (record_at_lem rs i l) refl k n m)
+        go (a ∷ (b ∷ (_ ∷ _))) k _ f = elim k [ ]
 
     pub put_named : Named (put p i)
     put_named a m o =

@@ -68,6 +68,7 @@ module _ (A : ℕ → Type 0) where
           go : {d : Row} → Among d (c ∷ cs) → A d.number → ⊥
           go here x = not_both (m.0.1 x) q
           go {d} (there b) x = rest (m.1 q) (sym (row_passes c cs q) ∙ e) d b x
+  none_applies k [] u m e d a x = elim a [ ]
 
   -- the answer applies, and no smaller number of the table does
   pub answer_applies : (k : ℕ) (cs : List Row) → Ascends k cs → Means A cs → (answer cs ≡ 0 → ⊥) →
