@@ -1,5 +1,6 @@
 // The load call: checks a bundle, writes its nodes in their slots and the slots of its exports.
 #![tactic(auto)]
+
 ghost use Rattle.std.specs.Prelude.{◌≡◌};
 ghost use Rattle.refusals.specs.Refusals.{answer};
 ghost use Rattle.nodes.specs.Records.{nodes_of};
