@@ -1,5 +1,6 @@
 // What document 01's program writes: the answer of a load, and the exports of an accepted bundle.
 #![tactic(auto)]
+
 ghost use Rattle.std.specs.Prelude.{◌≡◌, ◌≤◌, length, take, drop};
 ghost use Rattle.listing.specs.Listing.{listing};
 

@@ -1,5 +1,6 @@
 // The lines that are written: of a refusal, or of an accepted bundle and its exports.
 #![tactic(auto)]
+
 ghost use Rattle.std.specs.Prelude.{◌+◌, ◌≤◌, ◌≡◌, ◌++◌, length, take};
 ghost use Rattle.sizes.specs.Sizes.{name_size};
 ghost use Rattle.manifest.specs.Content.{names};
