@@ -148,12 +148,14 @@ module _ (rs : List Record) {s : List ℕ} (are : IsNodes rs s) (apart : Distinc
         go [] e none = tt
         go (a ∷ []) e one = child_below i l {h = a} (rw e here)
         go (a ∷ b ∷ []) e two = (child_below i l {h = a} (rw e here), child_below i l {h = b} (rw e (there here)))
+        go (a ∷ (b ∷ (_ ∷ _))) e x8 = elim x8 [ ]
 
     leaf_childless : (cs : List (List ℕ)) → Kids cs → record_node rs cs ≡ Leaf → cs ≡ []
     unfolding record_node
     leaf_childless [] none e = refl
     leaf_childless (a ∷ []) one e = let z : ◌≡◌ {A = ℕ} 0 1 = cc in absurd (omega arith)
     leaf_childless (a ∷ b ∷ []) two e = let z : ◌≡◌ {A = ℕ} 0 1 = cc in absurd (omega arith)
+    leaf_childless (a ∷ (b ∷ (_ ∷ _))) x8 e = elim x8 [ ]
 
     module _ (one_leaf : (r q : Record) → Among r rs → Among q rs → IsPayload [] r.payload → IsPayload [] q.payload →
         r ≡ q) (some : 0 < length rs) where
@@ -175,6 +177,7 @@ module _ (rs : List Record) {s : List ℕ} (are : IsNodes rs s) (apart : Distinc
           first_childless j m z [] g none = g
           first_childless j m z (a ∷ []) g one = absurd (omega (arith, child_below j m {h = a} (rw g here)))
           first_childless j m z (a ∷ b ∷ []) g two = absurd (omega (arith, child_below j m {h = a} (rw g here)))
+          first_childless j m z (a ∷ (b ∷ (_ ∷ _))) g x8 = elim x8 [ ]
 
       slots_sound : SoundSlots v (length rs)
       unfolding record_slot

@@ -91,6 +91,7 @@ tree_of : {rs order : List NodeRecord} {store : List Tree} {t : Tree} → TreesO
     (r : NodeRecord) × Among r order × Names rs r.hash t
 tree_of (more {r = r} n x) here = (r, here, n)
 tree_of (more n x) (there a) = let (r, b, m) = tree_of x a in (r, there b, m)
+tree_of {rs = rs} {t = t} none x4 = elim x4 [ ]
 
 module _ {file : List ℕ} (sound : Sound file) where
   trees_distinct : {order : List NodeRecord} {store : List Tree} → TreesOf sound.nodes order store →

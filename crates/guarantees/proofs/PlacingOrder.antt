@@ -51,12 +51,14 @@ among_take [] (suc i) a = absurd (omega (arith, (number_of a).1))
 among_take (r ∷ rs) (suc i) here = (0, omega arith, omega arith, refl)
 among_take (r ∷ rs) (suc i) (there a) =
     let (j, l, m, e) = among_take rs i a in (suc j, omega arith, omega arith, e)
+among_take {q = q} (r ∷ rs) zero a = elim a [ ]
 
 -- an element of a list that is joined at the end
 pub among_join : {r : NodeRecord} (ps : List NodeRecord) {q : NodeRecord} → Among r (ps ++ (q ∷ [])) → Among r ps ⊎ (r ≡ q)
 among_join [] here = inr refl
 among_join (p ∷ ps) here = inl here
 among_join (p ∷ ps) (there a) = ⊎_elim (λ b. inl (there b)) inr (among_join ps a)
+among_join {r = r} [] {q = q} (there a) = elim a [ ]
 
 at_front : (ps : List NodeRecord) (r : NodeRecord) (j : ℕ) → j < length ps → at (ps ++ (r ∷ [])) j ≡ at ps j
 at_front [] r j l = absurd (omega arith)
@@ -96,6 +98,7 @@ module _ (rs : List NodeRecord) where
   placing_among {r = r} (next_record {placed = ps} {r = q} p e) a =
       ⊎_elim (λ b. placing_among p b)
       (λ z. subst (λ (n : NodeRecord). Among n rs) (sym z) (earliest_among e)) (among_join ps a)
+  placing_among {r = r} (leaf_record a e) (there x6) = elim x6 [ ]
 
   stages_placing : {s : List ℕ} → IsNodes rs s → {ps : List NodeRecord} → Stages rs ps → (ps ≡ []) ⊎ Placing rs ps
   stages_placing are start = inl refl

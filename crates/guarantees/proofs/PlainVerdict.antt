@@ -50,6 +50,7 @@ module _ (w : List ℕ) (base f x : ℤ) (used fuel places : ℕ) where
   judged j n low (damaged a b (inl c)) = damaged a b c
   judged j n low (at_last a b c d) = absurd d
   judged j n low {r} (started a b c d h) = started a b (λ z. c (inl z)) low (goes_of r h)
+  judged j n low (damaged a b (mathlib.Core.Logic.inr x4)) = elim x4 [ ]
 
   -- above that, as a run with no fuel is, and by 49
   judged_deep : (n : ℕ) → TooDeep fuel places → {r : Ran} → Judged Scratch w [] base f x used n r → P (deep_of w r)
@@ -58,6 +59,7 @@ module _ (w : List ℕ) (base f x : ℤ) (used fuel places : ℕ) where
   judged_deep n deep (damaged a b (inl c)) = damaged a b c
   judged_deep n deep (at_last a b c d) = absurd d
   judged_deep n deep {r} (started a b c d h) = rw (deep_of_lem w r h) (at_last a b (λ z. c (inl z)) deep)
+  judged_deep n deep (damaged a b (mathlib.Core.Logic.inr x4)) = elim x4 [ ]
 
   -- every plain run has its verdict
   pub plain_verdict : P (plain_run w base f x used fuel places)

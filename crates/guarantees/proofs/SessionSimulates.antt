@@ -182,8 +182,8 @@ module _ (call : Calls) (refuses : RefusedExactly call) (simulates : RunSimulate
       let t' = table_after b t (called call b t (to_run c)) in
       rw e (
         g.alike,
-        all_alike cs t'.words t'.used (room w) (store_after store (reply (room w) store (to_run c))) g.holding
-            (sym g.same_room) bring.1,
+        all_alike cs t'.words t'.used most (store_after store (reply (room w) store (to_run c))) g.holding
+            (e ∙ sym g.same_room) bring.1,
       )
 
 pub session_simulates : SessionSimulates
