@@ -1,5 +1,6 @@
 // The words that C gets of each answer. Each function writes all words of a lent array, and returns the number.
 #![tactic(auto)]
+
 ghost use Rattle.std.specs.Prelude.{◌<◌, ◌^◌, ◌≡◌};
 ghost use Rattle.bundle.specs.Exports.{index_numbers};
 ghost use Rattle.loader.specs.Answer.{load_numbers};

@@ -1,5 +1,6 @@
 // The calls for C: include/arboricx.h declares them. A slice is a pointer and a length there, a lent array a pointer.
 #![tactic(auto)]
+
 ghost use Rattle.std.specs.Prelude.{◌≡◌};
 ghost use Rattle.sha256_block.specs.Fips180.{sha256};
 ghost use Rattle.bundle.specs.Checks.{refusal};

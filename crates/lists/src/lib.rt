@@ -1,5 +1,6 @@
 // Lists of bytes and of numbers: the same ones, and the place of one among others.
 #![tactic(auto)]
+
 ghost use Rattle.std.specs.Prelude.{◌≡◌};
 ghost use Rattle.lists.specs.Lists.{same_bytes};
 

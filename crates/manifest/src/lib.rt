@@ -1,5 +1,6 @@
 // What stands in a manifest: its strings, its exports; what is refused of it (13 and 14).
 #![tactic(auto)]
+
 ghost use Rattle.std.specs.Prelude.{◌≡◌};
 ghost use Rattle.manifest.specs.Judged.{unsupported_at, misnamed_at};
 

@@ -1,5 +1,6 @@
 // The shape of a manifest (12), and where its parts start.
 #![tactic(auto)]
+
 ghost use Rattle.std.specs.Prelude.{◌≡◌};
 ghost use Rattle.manifest_shape.specs.Shape.{and_then, items_end, counted_end, closure_end, head_end, place_of, ending, manifest_of};
 

@@ -1,6 +1,7 @@
 // Writes the digests of published messages, and of every length from 0 to 130: whole, cut in two at every place, and byte
 // by byte.
 #![tactic(auto)]
+
 ghost use Rattle.std.specs.Prelude.{◌≡◌, ◌≤◌, length};
 ghost use Rattle.sha256_block.specs.Fips180.{sha256};
 

@@ -1,5 +1,6 @@
 // Document 01's sizes: how much of each thing a bundle has.
 #![tactic(auto)]
+
 ghost use Rattle.std.specs.Prelude.{◌≡◌};
 ghost use Rattle.sizes.specs.Sizes.{within};
 

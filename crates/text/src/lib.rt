@@ -1,5 +1,6 @@
 // Text in a lent buffer. Each function puts a text at a place and answers the place after it; all other bytes stay.
 #![tactic(auto)]
+
 ghost use Rattle.std.specs.Prelude.{◌+◌, ◌≤◌, length};
 ghost use Rattle.text.specs.Text.{decimal};
 ghost use Rattle.text.specs.Put.{Put};

@@ -1,5 +1,6 @@
 // Whether bytes are UTF-8 (RFC 3629), and where they stop being it.
 #![tactic(auto)]
+
 ghost use Rattle.std.specs.Prelude.{◌≡◌, ◌≤◌};
 ghost use Rattle.utf8.specs.Check.{utf8_char, octet_start, octet_step, at_end, check};
 ghost use Rattle.utf8.specs.State.{tails, wanted, after_of, ascii_length};

@@ -1,5 +1,6 @@
 // Runs the check on each case of the input and on every text of four families, and writes what it answers.
 #![tactic(auto)]
+
 use cases::output::{decimal, hex, long, size, text};
 
 // How many texts a family has, how many of them are valid, and the sum of the places of the others.

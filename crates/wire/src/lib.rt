@@ -1,5 +1,6 @@
 // Reads in a slice of bytes: big-endian numbers, spans, fixed strings. What passes the end is an answer.
 #![tactic(auto)]
+
 ghost use Rattle.std.specs.Prelude.{◌≡◌, ◌+◌, ◌^◌, ◌≤◌, ◌<◌, length, take, drop};
 ghost use Rattle.wire.specs.Wire.{big_endian, inside, span_end, span, number_at, holds_at, or_zero};
 

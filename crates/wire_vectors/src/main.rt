@@ -1,6 +1,7 @@
 // Prints what wire reads in 24 fixed bytes: the numbers at each position, spans, and the tests of byte strings.
 // Positions and lengths run to 2 ^ 64 - 1, so that some sums would wrap.
 #![tactic(auto)]
+
 use cases::output::{hex, long, size, text};
 use wire::{Num, Pos};
 

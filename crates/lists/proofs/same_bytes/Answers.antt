@@ -16,8 +16,8 @@ pub loop-i-preserved : goal.loop-i-preserved
 loop-i-preserved c =
     let turn = c.loop-i.invariant in
     elim c.if-a-i.branch [
-      then-a-i w ↦ rw w.same-is (compared_other _ _ turn (omega arith) w.if-a-i.true)
-    | else-a-i w ↦ rw w.same-is (compared_same _ _ turn (omega arith) w.if-a-i.false)
+      | then-a-i w ↦ rw w.same-is (compared_other _ _ turn (omega arith) w.if-a-i.true)
+      | else-a-i w ↦ rw w.same-is (compared_same _ _ turn (omega arith) w.if-a-i.false)
     ]
 
 pub returns : goal.returns
