@@ -21,7 +21,7 @@ OUT = target/c
 BUILT = target/staticlib/libarboricx.a
 ARCHIVE = $(BUILT)
 ARCHIVES = target/archives
-PROGRAM = target/bin/check_bundle
+PROGRAM = crates/check_bundle/out/check_bundle
 SEED = 1
 ROUNDS = 61
 STRICT = -Wall -Wextra -Wpedantic -Iinclude -Itests
@@ -41,11 +41,11 @@ HEADERS = $(wildcard include/*.h tests/*.h bench/*.h)
 # ---- what the kit proves and builds
 
 # A crate and the crates that it stands on, by crates.txt; and all that they are proved from. A folder counts as its files do:
-# it changes where one is taken away.
+# it changes where one is taken away. The crate's own folder does not, as the kit keeps its work in out/ there.
 crates_of = $(shell awk -F: -v crate=$(1) '\
     function visit(c, d, i, n) { if (seen[c]++) return; n = split(deps[c], d, " "); for (i = 1; i <= n; i++) if (d[i] in deps) visit(d[i]); print c } \
-    /^[a-z]/ { deps[$$1] = $$2 } END { visit(crate) }' crates.txt)
-sources = crates.txt $(shell find $(patsubst %,crates/%,$(1)) -path '*/must-fail' -prune -o -print)
+    /^[a-z]/ { split($$1, name, " "); deps[name[1]] = $$2 } END { visit(crate) }' crates.txt)
+sources = crates.txt $(shell find $(patsubst %,crates/%,$(1)) \( -path '*/must-fail' -o -path '*/out' \) -prune -o ! -regex 'crates/[^/]*' -print)
 
 ARCHIVE_CRATES := $(call crates_of,arboricx)
 
@@ -60,12 +60,13 @@ BUILD = $(OUT)/archive.built
 archive: $(BUILD)
 FORCE:
 
-# The crates below it first: rt check proves as many at a time as there are processors, rt staticlib one after the other.
+# The crates below it are proved first, where they have changed. Any x86-64 processor is to run it.
 $(BUILD): $(call sources,$(ARCHIVE_CRATES)) $(if $(wildcard $(BUILT)),,FORCE)
 	@$(call need_kit,There is no archive of these sources)
 	@mkdir -p $(OUT)
 	@echo 'Proving $(words $(ARCHIVE_CRATES)) crates for the archive: a few minutes the first time, later only those that changed.'
-	@$(call show_proving,rt check $(filter-out arboricx,$(ARCHIVE_CRATES)) && echo 'rt: arboricx and the archive' && rt staticlib arboricx,$(OUT)/archive.log)
+	@mkdir -p $(dir $(BUILT))
+	@$(call show_proving,(cd crates/arboricx && rt lib --cpu=x86-64) && cp crates/arboricx/out/libarboricx.a $(BUILT),$(OUT)/archive.log)
 	@touch $@
 
 $(BUILT):
@@ -106,7 +107,7 @@ $(OUT)/arboricx: host/arboricx.c $(HEADERS) $(USED)
 # Says so where an archive that is there is not that of the sources.
 older: $(ARCHIVE)
 	@for built in $(BUILT) $(LAST); do \
-	    [ ! -e $$built ] || [ -z "$$(find crates.txt $(patsubst %,crates/%,$(ARCHIVE_CRATES)) -path '*/must-fail' -prune -o -newer $$built -print | head -n 1)" ] \
+	    [ ! -e $$built ] || [ -z "$$(find crates.txt $(patsubst %,crates/%,$(ARCHIVE_CRATES)) \( -path '*/must-fail' -o -path '*/out' \) -prune -o ! -regex 'crates/[^/]*' -newer $$built -print | head -n 1)" ] \
 	        || echo "Note: $$built is older than its sources: make archives builds it anew."; \
 	done
 
@@ -213,6 +214,6 @@ $(OUT)/plain_c_clang.o: $(PLAIN_C) $(HEADERS)
 
 bench: older $(OUT)/bench
 	@$(if $(CLANG),,echo 'There is no clang here: its column is left out.')
-	@[ -x $(PROGRAM) ] || echo 'There is no $(PROGRAM), which rt check check_bundle builds: it is left out.'
+	@[ -x $(PROGRAM) ] || echo 'There is no $(PROGRAM), which rt run in crates/check_bundle builds: it is left out.'
 	$(OUT)/bench $(ROUNDS) $(wildcard $(PROGRAM))
 	sh bench/size.sh $(ARCHIVE)

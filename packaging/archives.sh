@@ -15,25 +15,25 @@ cd "$(dirname "$0")/.."
 out=$(mkdir -p "$1" && cd "$1" && pwd)
 machine=$(uname -m)
 rt=$(command -v rt) || { echo 'The archives are built with the Rattle kit: rt is not on the path.' >&2; exit 1; }
-own=$(readlink -f "${RATTLE_HOME:-$(dirname "$(dirname "$(readlink -f "$rt")")")}")
-tools=$(readlink -f "$own/on/$machine/toolchain")
+own=$(dirname "$(dirname "$(readlink -f "$rt")")")
+tools=$own/toolchain
 
-# The kit once more, in links, with a compiler that keeps the module.
+# The kit once more, in links, with a compiler that keeps the module. Its command finds the kit by where it stands itself, so that it is copied.
 kit=$out/kit
 rm -rf "$kit"
-mkdir -p "$kit/on/$machine/toolchain/bin"
-for f in "$own"/*; do [ "$(basename "$f")" = on ] || ln -s "$f" "$kit/"; done
-for f in "$own/on/$machine"/*; do [ "$(basename "$f")" = toolchain ] || ln -s "$f" "$kit/on/$machine/"; done
-for f in "$tools"/*; do [ "$(basename "$f")" = bin ] || ln -s "$f" "$kit/on/$machine/toolchain/"; done
-for f in "$tools"/bin/*; do [ "$(basename "$f")" = clang ] || ln -s "$f" "$kit/on/$machine/toolchain/bin/"; done
-cat >"$kit/on/$machine/toolchain/bin/clang" <<WRAPPER
+mkdir -p "$kit/bin" "$kit/toolchain/bin"
+for f in "$own"/*; do case $(basename "$f") in bin | toolchain) ;; *) ln -s "$f" "$kit/" ;; esac; done
+for f in "$own"/bin/*; do case $(basename "$f") in rt | rtlib.py) cp "$f" "$kit/bin/" ;; *) ln -s "$f" "$kit/bin/" ;; esac; done
+for f in "$tools"/*; do [ "$(basename "$f")" = bin ] || ln -s "$f" "$kit/toolchain/"; done
+for f in "$tools"/bin/*; do [ "$(basename "$f")" = clang ] || ln -s "$f" "$kit/toolchain/bin/"; done
+cat >"$kit/toolchain/bin/clang" <<WRAPPER
 #!/bin/sh
 for a in "\$@"; do case \$a in *.bc) cp "\$a" "$out/module.bc" ;; esac; done
 exec "$tools/bin/clang" "\$@"
 WRAPPER
-chmod +x "$kit/on/$machine/toolchain/bin/clang"
+chmod +x "$kit/toolchain/bin/clang"
 rm -f "$out/module.bc"
-RATTLE_HOME=$kit rt staticlib arboricx >"$out/log" 2>&1 || { cat "$out/log"; exit 1; }
+(cd crates/arboricx && "$kit/bin/rt" lib --cpu=x86-64) >"$out/log" 2>&1 || { cat "$out/log"; exit 1; }
 rm -rf "$kit"
 
 # The module as text, without the processor and the layout that it was made for, and with the mark for unwinding.
@@ -62,7 +62,8 @@ archive() {
     echo "$folder/libarboricx.a"
 }
 
-archive x86_64-linux-gnu x86_64-unknown-linux-gnu unwound.ll
+archive x86_64-linux-gnu x86_64-unknown-linux-gnu unwound.ll -mllvm -no-x86-call-frame-opt -mllvm -disable-machine-licm \
+    -mllvm -disable-postra-machine-licm -mllvm -sink-common-insts=false
 archive aarch64-linux-gnu aarch64-unknown-linux-gnu unwound.ll
 # ARM's own tables for unwinding would want two names of the compiler's library; those for a debugger want none. Not every armv7 has NEON.
 archive arm-linux-gnueabihf armv7-unknown-linux-gnueabihf module.ll -fforce-dwarf-frame -mfpu=vfpv3-d16
