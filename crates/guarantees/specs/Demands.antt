@@ -82,7 +82,7 @@ pub record Demand2 : Type 0 where
   pub load_leaves : LoadLeaves load
   pub check_accepted : checks.AcceptedExactly
   pub check_by_number : NumberExactly refusal
-  -- numbers are big_endian; what a payload names is read
+  -- numbers are big-endian; what a payload names is read
   pub big_endian : BigEndian
   pub reads_children : ReadsChildren
 

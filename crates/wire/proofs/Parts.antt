@@ -9,7 +9,7 @@ use lib.ListN.{length, get_or, take, drop, length-take, length-drop, get_or-eq_d
 use lib.Seq.{get_or-take, get_or-drop, take-take}
 
 -- every element of a list is a byte; past its end stands 0
--- (of a slice s, λ i. c.shared-slice-known.given i .fits says so)
+-- (of a slice s, λ i. c.type_inv.s i says so)
 abbrev pub AreBytes : List ℕ → Type 0
 AreBytes xs = (i : ℕ) → get_or xs i 0 < 256
 
