@@ -1,6 +1,6 @@
 -- The three tests in their order.
 use mathlib.Core.Path.{sym, ◌∙◌}
-use borrow.Author.Tests.{eq-eqb, ne_eqb, not-true, not-false}
+use borrow.Author.Tests.{eq-eqb, ne_eqb}
 use Rattle.manifest_shape.specs.Shape.{head_end}
 use Rattle.manifest_shape.proofs.head_end.Goals as goal
 
