@@ -1,6 +1,7 @@
 // Checks each bundle of a folder whose name the input has, and writes the number that is answered, the names of its exports
 // and where they start, and what the index by name answers of three names.
 #![tactic(auto)]
+
 use bundle::exports::IndexAnswer;
 use cases::files::{line_end, read_file};
 use cases::output::{decimal, hex, size, text};
