@@ -1,5 +1,6 @@
 // Writes, for each bundle of a folder whose name the input has, its name and the text for it.
 #![tactic(auto)]
+
 use cases::files::{line_end, read_file};
 use cases::output::text;
 use std::fs::Files;
