@@ -1,6 +1,7 @@
 // Loads each bundle that the input names into tables that are filled before, makes the runs that stand after it on the same
 // table, and writes what load and run answer and what the tables hold then.
 #![tactic(auto)]
+
 ghost use Rattle.std.specs.Prelude.{◌≤◌};
 
 use cases::answers::run_line;
@@ -133,13 +134,25 @@ fn show_loaded(a: LoadAnswer) -> u32 {
 }
 
 // The bundle in the file of that name; a byte more than is read of the largest.
-fn load_file(rt: &impl Files, name: &[u8], words: &mut [u32], base: i32, exports: &mut [u32]) -> LoadAnswer {
+fn load_file(
+    rt: &impl Files,
+    name: &[u8],
+    words: &mut [u32],
+    base: i32,
+    exports: &mut [u32],
+) -> LoadAnswer {
     let mut bytes: [u8; 65538] = [0; 65538];
     let n = read_file(rt, name, &mut bytes);
     loader::load(&bytes[..n], words, base, exports)
 }
 
-fn show_load(rt: &impl Files, name: &[u8], words: &mut [u32], base: u32, exports: &mut [u32]) -> u32 {
+fn show_load(
+    rt: &impl Files,
+    name: &[u8],
+    words: &mut [u32],
+    base: u32,
+    exports: &mut [u32],
+) -> u32 {
     show_asked(name, words.len(), base, exports.len());
     fill(words, 0xA5000000);
     fill(exports, 0xE5000000);
