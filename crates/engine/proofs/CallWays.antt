@@ -21,7 +21,7 @@ use Rattle.engine.specs.declared.From.{From}
 use Rattle.engine.specs.declared.RunAnswer.{RunAnswer}
 use Rattle.engine.specs.declared.RunAnswer.TheVariants.{Refused}
 use Rattle.engine.specs.Admission.{max_steps, run_rows}
-use Rattle.engine.specs.Run.{Ran, ran, drive, steps_of, waiting_of, jobs_from, state_from, run_tail, ran_with, run_from}
+use Rattle.engine.specs.Run.{Ran, ran, drive, steps_of, waiting_of, jobs_from, run_tail, ran_with, run_from}
 use Rattle.engine.proofs.AdmissionLaws.{clear_named, clear_ready, clear_waits, clear_steps}
 use Rattle.engine.proofs.AdmissionLaws.{run_numbered, run_slots, run_begins}
 

@@ -70,6 +70,9 @@ fn write(
     }
 }
 
+// What a check answers that lets pass.
+const PASSED: u32 = 0;
+
 // Writes a bundle that 1 to 20 let pass, where 21 and 22 let it pass, too.
 fn admit(
     file: &[u8],
@@ -89,7 +92,7 @@ fn admit(
     let s = nodes.of(file);
     let asked = list_exports(m, c.layout);
     let refused = check_fit(room(words), exports.len(), count(s), asked.count);
-    if refused != 0 {
+    if refused != PASSED {
         return LoadAnswer::Refused(refused);
     }
     write(m, asked, s, links, slots, words, exports)

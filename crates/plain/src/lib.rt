@@ -41,14 +41,17 @@ fn answered(fuel: u32, end: Applied) -> PlainAnswer
     }
 }
 
-// Whether fuel or places for jobs are more than the stack is for.
+// The most fuel, and the most places for jobs, that the stack is for.
+const DEEPEST: u32 = Progress::MOST;
+
+// Whether fuel or places for jobs are more.
 fn too_deep(fuel: u32, places: u32) -> bool
     ensures { result ≡ too_deep fuel places }
 {
-    if fuel > Progress::MOST {
+    if fuel > DEEPEST {
         return true;
     }
-    places > Progress::MOST
+    places > DEEPEST
 }
 
 // What refuses a plain run, or 0.

@@ -2,6 +2,9 @@
 ghost use Rattle.std.specs.Prelude.{◌≡◌};
 ghost use Rattle.table.specs.Base.{base_of};
 
+// The lowest base that lies in a table.
+const LOWEST: i32 = 0;
+
 // Whether a base is in the table: our part is the words from it on.
 #[derive(Clone, Copy)]
 pub enum Base {
@@ -14,7 +17,7 @@ impl Base {
     pub fn of(base: i32, len: usize) -> Base
         ensures { result ≡ base_of base len }
     {
-        if base < 0 {
+        if base < LOWEST {
             return Base::Outside;
         }
         let at = base as usize;

@@ -5,17 +5,17 @@ use Rattle.loader.proofs.admit.Goals as goal
 pub list_exports-asked-requires : goal.list_exports-asked-requires
 list_exports-asked-requires c = admit_shape c.requires c.of-m.ensures c.of-s.ensures
 
-pub returns-then-refused-ne0 : goal.returns-then-refused-ne0
-returns-then-refused-ne0 c =
+pub returns-then-refused-ne-PASSED : goal.returns-then-refused-ne-PASSED
+returns-then-refused-ne-PASSED c =
     admit_refused c.requires c.of-m.ensures c.of-s.ensures _ _ c.list_exports-asked.ensures
-    c.count.ensures c.room.ensures c.check_fit-refused.ensures c.if-refused-ne0.true
+    c.count.ensures c.room.ensures c.check_fit-refused.ensures c.if-refused-ne-PASSED.true
 
 pub write-requires : goal.write-requires
 write-requires c =
     admit_writable c.requires c.of-m.ensures c.of-s.ensures _ _ c.list_exports-asked.ensures
-    c.count.ensures c.room.ensures c.check_fit-refused.ensures c.if-refused-ne0.false
+    c.count.ensures c.room.ensures c.check_fit-refused.ensures c.if-refused-ne-PASSED.false
 
 pub returns : goal.returns
 returns c =
     admit_written c.requires c.of-m.ensures c.of-s.ensures _ _ c.list_exports-asked.ensures
-    c.count.ensures c.room.ensures c.check_fit-refused.ensures c.if-refused-ne0.false c.write.ensures
+    c.count.ensures c.room.ensures c.check_fit-refused.ensures c.if-refused-ne-PASSED.false c.write.ensures
