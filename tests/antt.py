@@ -17,10 +17,10 @@ PART = {"pub record": re.compile(r"^  pub (\S+) :", re.M), "pub data": re.compil
 # the calls' own definitions: the contracts of the public functions are equations with them
 CALLS = {
     "bundle/Checks": ["refusal"],
-    "bundle/Exports": ["namePart", "nameCall", "indexCall"],
+    "bundle/Exports": ["name_part", "name_call", "index_call"],
     "loader/Load": ["load"],
-    "engine/Run": ["runFrom"],
-    "plain/Run": ["plainRun"],
+    "engine/Run": ["run_from"],
+    "plain/Run": ["plain_run"],
 }
 
 
@@ -50,7 +50,7 @@ class Item:
         if line.startswith(" "):
             return self.kind not in PART or line.startswith("   ") or bool(PART[self.kind].match(line))
         left = re.split(r" =(?: |$)", line)[0].split()
-        parts = self.name.split("_")
+        parts = self.name.split("◌")
         return self.kind not in PART and ":" not in left and parts[0] in ("", left[0]) and all(part in left for part in parts if part)
 
 
@@ -82,7 +82,7 @@ class Module:
         """A line of no known kind is a fault, so that no declaration is passed over; so is a `use` of neither specs nor the kit, or after a declaration."""
         first = min((self.text.index("\n".join(i.lines)) for i in self.items.values()), default=len(self.text))
         for use in USE.finditer(self.text):
-            if not re.match(r"(Prim|mathlib|lib|Rattle·\w+(·specs)?\.specs)\.", use[1]):
+            if not re.match(r"(Prim|mathlib)\.|Rattle\.\w+\.specs\.", use[1]):
                 raise Fault(f"{self.path}: {use[0]}: neither of the kit's library nor of specs")
             if use.start() > first:
                 raise Fault(f"{self.path}: {use[0]}: after a declaration")
@@ -117,13 +117,13 @@ module_of = functools.cache(Module)
 def uses(path, text):
     """What the `use` lines of a file bring out of specs: names, and other names of whole files.
 
-    Rattle·crate.specs.Module.{A, B as C}, or Rattle·crate.specs.Module as m; the own crate is Rattle·crate·specs."""
+    Rattle.crate.specs.Module.{A, B as C}, or Rattle.crate.specs.Module as m; the crate std is the kit's library."""
     brought, aliases = {}, {}
     for what in USE.findall(text):
         what = re.sub(r"\s+", " ", what).strip()
-        found = re.fullmatch(r"Rattle·(\w+)(?:·specs)?\.specs\.(.+?)(?:\.\{(.*)\}| as (\S+))", what)
+        found = re.fullmatch(r"Rattle\.(?!std\.)(\w+)\.specs\.(.+?)(?:\.\{(.*)\}| as (\S+))", what)
         if not found:
-            if re.match(r"Rattle·\w+(·specs)?\.specs\b", what):
+            if re.match(r"Rattle\.(?!std\.)\w+\.specs\b", what):
                 raise Fault(f"{path}: use {what}: not understood")
             continue
         crate, module, names, alias = found.groups()
@@ -167,7 +167,7 @@ class Specs:
     def find(self, crate, module, name, whence):
         """What a name of another file stands for: declarations, or a type that is declared in code, by its name."""
         if module.startswith("declared."):
-            return [f"{crate}::{module.removeprefix('declared.').removesuffix('.the-variants').replace('.', '::')}"]
+            return [f"{crate}::{module.removeprefix('declared.').removesuffix('.TheVariants').replace('.', '::')}"]
         if (crate, module) not in self.modules:
             raise Fault(f"{whence.path}: there is no {crate}/{module}")
         found = self.modules[crate, module].called(name)
@@ -176,15 +176,15 @@ class Specs:
         return found
 
     def scope(self, module):
-        """Each name of a file's scope, and each part of a name like _when_: what it may stand for."""
+        """Each name of a file's scope, and each part of a name like ◌when◌: what it may stand for."""
         names = {}
         for item in module.items.values():
             for name in [item.name, *(item.inner if item.kind == "pub data" else [])]:
                 names.setdefault(name, []).append(item)
         for name, target in module.brought.items():
             names.setdefault(name, []).extend(self.find(*target, module))
-        for name in [n for n in names if "_" in n]:
-            for part in filter(None, name.split("_")):
+        for name in [n for n in names if "◌" in n]:
+            for part in filter(None, name.split("◌")):
                 names.setdefault(part, []).extend(names[name])
         return names
 
@@ -207,8 +207,8 @@ class Specs:
 
 
 def crates():
-    """The crates from the ground up, as crates.txt has them."""
-    return re.findall(r"^(\w+):", (ROOT / "crates.txt").read_text(), re.M)
+    """The crates from the ground up, as crates.txt has them; a word between the name and the colon says what is built."""
+    return re.findall(r"^(\w+)(?: \w+)?:", (ROOT / "crates.txt").read_text(), re.M)
 
 
 def read_specs():

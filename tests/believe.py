@@ -27,11 +27,11 @@ CLOSING = "crates/guarantees/specs/Closing.antt"
 MOST = 1350
 # definitions that a field of the demands determines, wherever the demands name them
 FIXED = {
-    "wire/Wire": {"bigEndian": "Demand2.big-endian"},
-    "calculus/Machine": {"stopNumber": "Demand3.stop-numbers"},
-    "nodes/Records": {"childrenOf": "Demand2.reads-children"},
-    "table/Slots": {"room": "Demand1.room-is"},
-    "frames/Frames": {"frameRoom": "Demand1.job-room-is", "jobWordsAt": "Demand1.job-words"},
+    "wire/Wire": {"big_endian": "Demand2.big_endian"},
+    "calculus/Machine": {"stop_number": "Demand3.stop_numbers"},
+    "nodes/Records": {"children_of": "Demand2.reads_children"},
+    "table/Slots": {"room": "Demand1.room_is"},
+    "frames/Frames": {"frame_room": "Demand1.job_room_is", "job_words_at": "Demand1.job_words"},
 }
 
 
@@ -232,7 +232,7 @@ def wrong(text, texts):
     demands = texts[DEMANDS]
     known = {i for files in (closure.files, closure.closing) for items in files.values() for i in items} | closure.stops
     file, name = next((m, i.name) for m in closure.outside for i in m.items.values() if i not in known)
-    path, record = f"Rattle·{file.crate}.specs.{file.name}", "\npub record Demand0 : Type 0 where\n  pub new : "
+    path, record = f"Rattle.{file.crate}.specs.{file.name}", "\npub record Demand0 : Type 0 where\n  pub new : "
     for label, use, new in (
         ("names a definition more", f".{{{name} as more}}", "more"),
         ("names one right after a dot", f".{{{name} as more}}", "(λ x.more)"),
@@ -245,17 +245,17 @@ def wrong(text, texts):
     answers = "crates/answers/specs/Words.antt"
     new = f"use {path}.{{{name} as more}}\n{texts[answers]}\nabbrev pub other : Type 0\nother = more\n"
     yield "a definition for C that names one more", text, {answers: new}, "another order or form"
-    yield "a field that determines a definition is gone", text, {DEMANDS: demands.replace("pub room-is :", "pub room :")}, "is to determine"
+    yield "a field that determines a definition is gone", text, {DEMANDS: demands.replace("pub room_is :", "pub room :")}, "is to determine"
     for other in ("ℕ", "JobRoomIs"):
-        new = demands.replace("pub room-is : RoomIs", f"pub room-is : {other}")
-        yield f"{other} for a statement that determines a definition", text, {DEMANDS: new}, "Demand1.room-is does not determine table/Slots"
+        new = demands.replace("pub room_is : RoomIs", f"pub room_is : {other}")
+        yield f"{other} for a statement that determines a definition", text, {DEMANDS: new}, "Demand1.room_is does not determine table/Slots"
     new = record + "ℕ\n" + "  -- more\n" * (MOST - closure.lines())
     yield "demands that have too many comments", text, {DEMANDS: demands + new}, "lines are to be believed"
-    for new in ("abbrev more : ℕ", "pub more : ℕ", "pub codata More : Type 0", "module _ where", "pub use lib.ListN.{drop}"):
+    for new in ("abbrev more : ℕ", "pub more : ℕ", "pub codata More : Type 0", "module _ where", "pub use Rattle.std.specs.Prelude.{drop}"):
         yield f"'{new}'", text, {DEMANDS: f"{demands}\n{new}\n"}, "of a kind that tests/antt.py does not know"
-    new = demands.replace("  pub room-is :", "  room-is :")
+    new = demands.replace("  pub room_is :", "  room_is :")
     yield "a field that is not public", text, {DEMANDS: new}, "of a kind that tests/antt.py does not know"
-    yield "a `use` of proofs", text, {DEMANDS: demands.replace("use ", "use Rattle·table.proofs.Slots.{more}\nuse ", 1)}, "nor of specs"
+    yield "a `use` of proofs", text, {DEMANDS: demands.replace("use ", "use Rattle.table.proofs.Slots.{more}\nuse ", 1)}, "nor of specs"
     yield "a `use` after a declaration", text, {DEMANDS: f"{demands}\nuse {path}.{{{name}}}\n"}, "after a declaration"
     yield "a name brought twice", text, {DEMANDS: f"use {path}.{{{name} as room}}\n{demands}"}, "two `use` lines bring room"
     lib = "crates/guarantees/specs/Lib.antt"

@@ -14,27 +14,26 @@ import antt
 # does not name itself, all in order
 PUBLIC = {
     "loader::load": "loaded LEFT ≡ load GIVEN",
-    "engine::run_from": "ran LEFT ≡ runFrom GIVEN",
-    "engine::run": "ran LEFT ≡ runFrom Scratch GIVEN",
-    "engine::carry_on": "ran LEFT ≡ runFrom (Stop waiting steps) GIVEN",
-    "plain::run": "played LEFT ≡ plainRun GIVEN",
+    "engine::run_from": "ran LEFT ≡ run_from GIVEN",
+    "engine::run": "ran LEFT ≡ run_from Scratch GIVEN",
+    "engine::carry_on": "ran LEFT ≡ run_from (Stop waiting steps) GIVEN",
+    "plain::run": "played LEFT ≡ plain_run GIVEN",
     "bundle::check": "LEFT ≡ refusal GIVEN",
-    "bundle::exports::name_part": "LEFT ≡ namePart GIVEN",
-    "bundle::exports::export_name": "now LEFT ≡ nameCall GIVEN",
-    "bundle::exports::export_index": "LEFT ≡ indexCall GIVEN",
-    "listing::list": "(r ≤ length (now (out .exit))) × (take r (now (out .exit)) ≡ listing GIVEN)"
-    " × (drop r (now (out .exit)) ≡ drop r (now (out .entry)))",
+    "bundle::exports::name_part": "LEFT ≡ name_part GIVEN",
+    "bundle::exports::export_name": "LEFT.now ≡ name_call GIVEN",
+    "bundle::exports::export_index": "LEFT ≡ index_call GIVEN",
+    "listing::list": "(result ≤ length out.new) × (take result out.new ≡ listing GIVEN) × (drop result out.new ≡ drop result out.old)",
 }
 # the same of the functions that are exported for C
 FOR_C = {
     "arboricx::arboricx_version": "LEFT ≡ version",
     "arboricx::arboricx_check": "LEFT ≡ refusal GIVEN",
-    "arboricx::arboricx_load": "left LEFT ≡ afterLoad (load GIVEN)",
-    "arboricx::arboricx_run": "left LEFT ≡ afterRun (runFrom Scratch GIVEN)",
-    "arboricx::arboricx_carry_on": "left LEFT ≡ afterRun (runFrom (Stop waiting steps) GIVEN)",
-    "arboricx::arboricx_plain_run": "leftOne LEFT ≡ afterPlain (plainRun GIVEN)",
-    "arboricx::arboricx_export_index": "told LEFT ≡ afterIndex (indexCall GIVEN)",
-    "arboricx::arboricx_export_name": "LEFT ≡ partWords (namePart GIVEN)",
+    "arboricx::arboricx_load": "left LEFT ≡ after_load (load GIVEN)",
+    "arboricx::arboricx_run": "left LEFT ≡ after_run (run_from Scratch GIVEN)",
+    "arboricx::arboricx_carry_on": "left LEFT ≡ after_run (run_from (Stop waiting steps) GIVEN)",
+    "arboricx::arboricx_plain_run": "left_one LEFT ≡ after_plain (plain_run GIVEN)",
+    "arboricx::arboricx_export_index": "told LEFT ≡ after_index (index_call GIVEN)",
+    "arboricx::arboricx_export_name": "LEFT ≡ part_words (name_part GIVEN)",
     "arboricx::arboricx_sha256": "LEFT ≡ sha256 GIVEN",
 }
 CONTRACTS = PUBLIC | FOR_C
@@ -47,27 +46,25 @@ SOURCES = [
     *antt.CALLS.items(),
     ("loader/Load", ["loaded"]),
     ("engine/Run", ["ran"]),
-    ("engine/declared.From.the-variants", ["Scratch", "Stop"]),
+    ("engine/declared.From.TheVariants", ["Scratch", "Stop"]),
     ("plain/Run", ["played"]),
     ("listing/Listing", ["listing"]),
     ("sha256_block/Fips180", ["sha256"]),
-    ("answers/Words", ["partWords", "version"]),
-    ("answers/Calls", ["left", "leftOne", "told", "afterLoad", "afterRun", "afterPlain", "afterIndex"]),
-    ("mathlib.Core.Path", ["_≡_"]),
-    ("Prim.Native.Nat", ["_≤_"]),
-    ("lib.ListN", ["length", "take", "drop"]),
+    ("answers/Words", ["part_words", "version"]),
+    ("answers/Calls", ["left", "left_one", "told", "after_load", "after_run", "after_plain", "after_index"]),
+    ("Rattle.std.specs.Prelude", ["◌≡◌", "◌≤◌", "length", "take", "drop"]),
 ]
 WHERE = {name: source for source, names in SOURCES for name in names}
 # the types of answers, and the definition that gives the paper's numbers of each case
 ANSWERS = {
-    "loader::LoadAnswer": "loader/Answer.loadNumbers",
-    "engine::RunAnswer": "engine/Answer.runNumbers",
-    "plain::PlainAnswer": "plain/Answer.plainNumbers",
-    "bundle::exports::IndexAnswer": "bundle/Exports.indexNumbers",
+    "loader::LoadAnswer": "loader/Answer.load_numbers",
+    "engine::RunAnswer": "engine/Answer.run_numbers",
+    "plain::PlainAnswer": "plain/Answer.plain_numbers",
+    "bundle::exports::IndexAnswer": "bundle/Exports.index_numbers",
 }
 # the start of an item of a source file
 ITEM = re.compile(r'^( *)(?:pub(?:\(crate\))? )?(?:extern "C" )?(fn|const|struct|enum|impl|mod|use|ghost)\b *(\w*)|^ *#\[', re.M)
-CONTRACT = re.compile(r"pub [^(]*\(([^()]*)\)\s*(?:-> ([^\n]*?)\s*)?ensures \{ λ r\. ⌜(.*?)⌝ \}\s*\{\n", re.S)
+CONTRACT = re.compile(r"pub [^(]*\(([^()]*)\)\s*(?:-> ([^\n]*?)\s*)?ensures \{ (.*?) \}\s*\{\n", re.S)
 
 
 @functools.cache
@@ -135,7 +132,7 @@ class Sources:
         found, wrong = {}, []
         for path, text in self.texts.items():
             if where := re.fullmatch(r"crates/(\w+)/src/(.+)\.rt", path):
-                names = re.findall(r'#\[no_mangle\]\s*pub extern "C" fn (\w+)', text)
+                names = re.findall(r'#\[unsafe\(no_mangle\)\]\s*pub extern "C" fn (\w+)', text)
                 if len(names) != text.count("no_mangle"):
                     wrong.append(f"{path}: {text.count('no_mangle')} functions are exported, {len(names)} could be read")
                 module = "" if where[2] in ("lib", "main") else where[2].replace("/", "::") + "::"
@@ -146,10 +143,10 @@ class Sources:
 def heads(name):
     """The names of a public contract that a `ghost use` has to bring."""
     found = []
-    for word in re.findall(r"[^\s()]+", CONTRACTS[name]):
-        if word in WHERE or f"_{word}_" in WHERE:
-            found.append(word if word in WHERE else f"_{word}_")
-        elif word not in ("LEFT", "GIVEN", "now", "r", "×", *WRITTEN, *NAMED, ".entry", ".exit"):
+    for word in re.findall(r"[^\s()]+", re.sub(r"\b(\w+)\.(now|old|new)\b", r"\1", CONTRACTS[name])):
+        if word in WHERE or f"◌{word}◌" in WHERE:
+            found.append(word if word in WHERE else f"◌{word}◌")
+        elif word not in ("LEFT", "GIVEN", "result", "×", *WRITTEN, *NAMED):
             raise antt.Fault(f"tests/contracts.py: {name}: SOURCES does not say where '{word}' comes from")
     return found
 
@@ -157,10 +154,10 @@ def heads(name):
 def equation(shape, parameters, returned):
     """What a contract of that shape says of these parameters, each a name and a type."""
     lent = [x for x, kind in parameters if kind.startswith("&mut")]
-    left = [f"(now ({x} .exit))" for x in lent] + ["r"] if returned else [f"now ({x} .exit)" for x in lent]
+    left = [f"{x}.new" for x in lent] + (["result"] if returned else [])
     named = [x for x in NAMED if re.search(rf"\b{x}\b", shape)]
     taken = [(x, kind) for x, kind in parameters if x not in named and (x not in WRITTEN or x not in lent)]
-    given = [f"(now ({x} .entry))" if kind.startswith("&") else f"«{x}»" if "_" in x else x for x, kind in taken]
+    given = [f"{x}.old" if kind.startswith("&mut") else f"{x}.now" if kind.startswith("&") else x for x, kind in taken]
     return shape.replace("LEFT", " ".join(left)).replace("GIVEN", " ".join(given))
 
 
@@ -177,15 +174,15 @@ def public_faults(sources, name):
         return found + ["its contract is not understood"]
     parameters = re.findall(r"(\w+):\s*([^,]*[^,\s])", contract[1])
     said, wanted = " ".join(contract[3].split()), equation(CONTRACTS[name], parameters, contract[2])
-    if said != wanted or any(f"({x} .exit)" not in said for x, kind in parameters if kind.startswith("&mut")):
+    if said != wanted or any(f"{x}.new" not in re.findall(r"[\w.]+", said) for x, kind in parameters if kind.startswith("&mut")):
         found.append(f"its contract does not say '{wanted}'")
     for word in heads(name):
         crate, slash, module = WHERE[word].partition("/")
-        wanted = rf"ghost use Rattle·{crate}(·specs)?\.specs\.{module}" if slash else f"ghost use {crate}"
+        wanted = f"ghost use Rattle.{crate}.specs.{module}" if slash else f"ghost use {crate}"
         lines = sources.bring(path, word)
         where, _, names = "".join(lines).rstrip("};").partition(".{")
         named = [each.strip() for each in names.split(",") if word in each.split()]
-        if len(lines) != 1 or not re.fullmatch(wanted, where) or named != [word]:
+        if len(lines) != 1 or where != wanted or named != [word]:
             found.append(f"'{word}' of its contract is not brought from {WHERE[word]} under its own name")
     return found
 
@@ -235,37 +232,37 @@ def wrong(texts, sources):
             raise antt.Fault(f"tests/contracts.py: {name}: its contract has no '{old}'")
         return {path: texts[path].replace(contract, contract.replace(old, new, 1))}
 
-    asks = "requires { ⌜ 0 ≡ 0 ⌝ }"
+    asks = "requires { 0 ≡ 0 }"
     for name in (next(iter(FOR_C)), *PUBLIC):
         part = f"{name}: a call that anyone may make has a 'requires'"
         yield f"a 'requires' on {name}", other(name, "ensures", f"{asks}\n    ensures"), part
-        yield f"one after the 'ensures' of {name}", other(name, "⌝ }", f"⌝ }}\n    {asks}"), part
-        yield f"one at the start of a line, of {name}", other(name, "⌝ }", f"⌝\n}}\n{asks}"), part
+        yield f"one after the 'ensures' of {name}", other(name, " }", f" }}\n    {asks}"), part
+        yield f"one at the start of a line, of {name}", other(name, " }", f"\n}}\n{asks}"), part
     for name, old, new in (
         ("arboricx::arboricx_run", "base f x", "base x f"),
-        ("arboricx::arboricx_run", "(runFrom Scratch ", "(runTail Scratch "),
+        ("arboricx::arboricx_run", "(run_from Scratch ", "(run_tail Scratch "),
         ("arboricx::arboricx_carry_on", "(Stop waiting steps)", "(Stop steps waiting)"),
-        ("arboricx::arboricx_load", "(answer .exit)", "(answer .entry)"),
+        ("arboricx::arboricx_load", "answer.new", "answer.old"),
         ("arboricx::arboricx_load", "exports: &mut", "exports: &"),
-        ("arboricx::arboricx_export_index", "(now (file .entry)) (now (name .entry))", "(now (name .entry)) (now (file .entry))"),
-        ("engine::run", "(jobs .exit)", "(words .exit)"),
+        ("arboricx::arboricx_export_index", "file.now name.now", "name.now file.now"),
+        ("engine::run", "jobs.new", "words.new"),
         ("engine::run", "used fuel", "used 0"),
         ("engine::run", "used fuel", "used (fuel - 1)"),
         ("engine::run", "f x used", "f f used"),
         ("engine::carry_on", "(Stop waiting steps)", "(Stop waiting 0)"),
         ("engine::carry_on", "(Stop waiting steps)", "Scratch"),
-        ("engine::run", "⌜ ran", "⌜ 0 ≡ 1 → ran"),
-        ("arboricx::arboricx_plain_run", "fuel «job_room»", "«job_room» fuel"),
+        ("engine::run", "{ ran", "{ 0 ≡ 1 → ran"),
+        ("arboricx::arboricx_plain_run", "fuel job_room", "job_room fuel"),
         ("plain::run", "f x used", "x f used"),
         ("plain::run", "fuel places", "fuel fuel"),
-        ("loader::load", " base (", " (pos 0) ("),
-        ("loader::load", "(words .exit)", "(words .entry)"),
-        ("loader::load", "(exports .entry)", "(exports .exit)"),
+        ("loader::load", " base exports", " (pos 0) exports"),
+        ("loader::load", "words.new", "words.old"),
+        ("loader::load", "exports.old", "exports.new"),
         ("loader::load", "file: &[u8]", "file: &[u8], more: u32"),
-        ("bundle::check", "refusal", "nameRefusal"),
-        ("bundle::exports::name_part", " index ⌝", " 0 ⌝"),
-        ("listing::list", "drop r (now (out .exit))", "drop r (now (out .entry))"),
-        ("listing::list", "(input .entry)", "(out .entry)"),
+        ("bundle::check", "refusal", "name_refusal"),
+        ("bundle::exports::name_part", " index }", " 0 }"),
+        ("listing::list", "drop result out.new", "drop result out.old"),
+        ("listing::list", "input.now", "out.old"),
     ):
         yield f"'{new}' in the contract of {name}", other(name, old, new), f"{name}: its contract does not say"
     for path, old, new, name in (
@@ -274,25 +271,26 @@ def wrong(texts, sources):
         ("crates/loader/specs/Answer.antt", "(Accepted nodes exports)", "(Accepted exports nodes)", "loader::LoadAnswer"),
     ):
         yield f"fields of {name} in another order", {path: texts[path].replace(old, new, 1)}, f"{name}: {ANSWERS[name]} takes"
-    yield "a contract of another form", other("engine::run", "λ r.", "λ s."), "engine::run: its contract is not understood"
+    yield "a contract of another form", other("engine::run", "ensures {", "ensures {\n       "), "engine::run: its contract is not understood"
     for name, old, new in (
         ("loader::load", "accept, load}", "accept as load}"),
         ("loader::load", "accept, load}", "accept, load as other}"),
-        ("loader::load", ".{recordsIn", ".{load as other, recordsIn"),
+        ("loader::load", ".{records_in", ".{load as other, records_in"),
         ("engine::run", "specs.Run.{ran", "specs.Step.{ran"),
-        ("bundle::check", "Path.{_≡_}", "Path.{_≤_ as _≡_}"),
-        ("listing::list", "{length, take, drop}", "{length, drop as take, drop}"),
-        ("arboricx::arboricx_sha256", "ghost use Rattle·sha256_block", "ghost use Rattle·sha256"),
-        ("arboricx::arboricx_load", "ghost use Rattle·loader", "ghost use Rattle·engine.specs.Run.{run as load};\nghost use Rattle·loader"),
+        ("bundle::check", "Prelude.{◌≡◌", "Prelude.{◌≤◌ as ◌≡◌"),
+        ("bundle::check", "Rattle.std.specs.Prelude.", "Rattle.std.specs.Other."),
+        ("listing::list", "length, take, drop}", "length, drop as take, drop}"),
+        ("arboricx::arboricx_sha256", "ghost use Rattle.sha256_block", "ghost use Rattle.sha256"),
+        ("arboricx::arboricx_load", "ghost use Rattle.loader", "ghost use Rattle.engine.specs.Run.{run as load};\nghost use Rattle.loader"),
     ):
         path = sources.item(name)[0]
         yield f"'{new}' in {path}", {path: texts[path].replace(old, new, 1)}, f"{name}: '"
     for path in ("crates/arboricx/src/lib.rt", "crates/fuel/src/lib.rt"):
-        new = '\n#[no_mangle]\npub extern "C" fn arboricx_new()\n    ensures { }\n{\n}\n'
+        new = '\n#[unsafe(no_mangle)]\npub extern "C" fn arboricx_new()\n    ensures { }\n{\n}\n'
         yield f"a call for C of {path} that no row has", {path: texts[path] + new}, "::arboricx_new: stands in no row"
         yield f"a call for C of {path} that is not known", {path: texts[path] + new}, "::arboricx_new: tests/contracts.py does not know"
     path = "crates/arboricx/src/lib.rt"
-    new = texts[path].replace("#[no_mangle]\n", "", 1)
+    new = texts[path].replace("#[unsafe(no_mangle)]\n", "", 1)
     yield "a call that is not exported", {path: new}, "arboricx::arboricx_version: is not exported for C"
     new = texts["README.md"].replace("| `bundle::check(file)` |", "| |")
     yield "a public call left out of README.md", {"README.md": new}, "bundle::check: a public call that the table has not"

@@ -37,12 +37,14 @@ PATH = re.compile(r"\b(?:crates|docs|tests|include|fixtures|host|bench)/[\w./-]*
 
 
 def read():
-    """Every file that is asked about, by its path; and every other path, with no text."""
+    """Every file that is asked about, by its path; and every other path, with no text, but for what rt makes in a crate's out/."""
     texts = {}
     for top in ("crates", "docs", "tests", "include", "fixtures", "host", "bench"):
         for path in (antt.ROOT / top).rglob("*"):
+            name = str(path.relative_to(antt.ROOT))
             asked = path.suffix in (".antt", ".rt", ".edit") or (top == "docs" and path.suffix == ".md")
-            texts[str(path.relative_to(antt.ROOT))] = path.read_text() if asked and path.is_file() else ""
+            if not re.match(r"crates/\w+/out\b", name):
+                texts[name] = path.read_text() if asked and path.is_file() else ""
     return texts | {"README.md": (antt.ROOT / "README.md").read_text()}
 
 
@@ -343,14 +345,14 @@ def wrong_statements(texts, tree, rows):
             ("that asks for something", f"pub {name} : ⊥ → {kind}\n"),
             ("that asks for something, in other signs", f"pub {name} : ⊥ -> {kind}\n"),
             ("in a module with a hypothesis", f"module _ (h : ⊥) where\n  pub {name} : {kind}\n"),
-            ("of something else", f"pub {name} : {kind}′\n"),
+            ("of something else", f"pub {name} : {kind}'\n"),
         ):
             yield f"a proof {label}, for {says}", {path: texts[path].replace(line, new)}, part
     bare = {p: re.sub(rf"`(\S+\.)?{applied[2].rpartition('.')[2]}`", "", texts[p]) for p in pages(texts)}
     yield f"{applied[2]} left out", bare, f"{applied[2]} is proved by"
     path, name, kind = proof_of(texts, of_field[1])
     new = texts[path].replace(f"pub {name} : {kind}\n", f"pub {name} : {kind.rpartition(' ')[0]} another\n")
-    use = "use Rattle·engine.specs.Run.{run as another}\n"
+    use = "use Rattle.plain.specs.Run.{plain_run as another}\n"
     yield "a field's proof, of another call", {path: use + new}, f"{of_field[0].place}: {of_field[2]}: no proof of this row"
 
     path, name, kind = proof_of(texts, plain[1])
@@ -359,7 +361,7 @@ def wrong_statements(texts, tree, rows):
     specs = f"crates/{crate}/specs/{module.replace('.', '/')}.antt"
     yield "a statement that no row has", {
         specs: texts[specs] + "\nabbrev pub New : Type 0\nNew = ℕ\n",
-        path: texts[path] + f"\nuse Rattle·{crate}.specs.{module}.{{New}}\npub new : New\nnew = 0\n",
+        path: texts[path] + f"\nuse Rattle.{crate}.specs.{module}.{{New}}\npub new : New\nnew = 0\n",
     }, f"{crate}/{module}.New is proved by"
 
 

@@ -92,10 +92,10 @@ def agree(what, ours, theirs):
 def exported(source):
     """Each exported function: its result, and for each argument its name and its type."""
     found = {}
-    for name, arguments, result in re.findall(r'#\[no_mangle\]\s*pub extern "C" fn (\w+)\((.*?)\)\s*(?:-> (\w+))?\s*ensures', source, re.S):
+    for name, arguments, result in re.findall(r'#\[unsafe\(no_mangle\)\]\s*pub extern "C" fn (\w+)\((.*?)\)\s*(?:-> (\w+))?\s*ensures', source, re.S):
         pairs = [a.split(":", 1) for a in arguments.split(",\n" if "\n" in arguments else ", ") if a.strip()]
         found[name] = (result, [(n.strip(), t.strip().rstrip(",")) for n, t in pairs])
-    agree("exports that were read", len(found), source.count("#[no_mangle]"))
+    agree("exports that were read", len(found), source.count("no_mangle"))
     return found
 
 
