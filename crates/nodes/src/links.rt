@@ -84,7 +84,7 @@ fn fill_links(s: &[u8], starts: &[u32], n: u64, out: &mut [u32])
 fn place(s: &[u8], n: u64, links: &[u32], slots: &mut [u32]) -> usize
     requires { Sized s.now n × (take (2 * n) links.now ≡ links_of (records s.now n first_record))
         × (2 * n ≤ length links.now) × (slots.old ≡ replicate nodes_size.most 0) }
-    ensures { record { slots = slots.exit.now; count = result } ≡ placed_of (records s.now n first_record) }
+    ensures { record { slots = slots.new; count = result } ≡ placed_of (records s.now n first_record) }
 {
     let total = n as usize;
     let end = 2 * total;

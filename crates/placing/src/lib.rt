@@ -49,8 +49,8 @@ fn earliest(links: &[u32], slots: &[u32], n: usize) -> Found
 // Places what can be placed of n records; `slots` gets each one's slot plus one. How many are placed.
 pub fn place(links: &[u32], n: usize, slots: &mut [u32]) -> usize
     requires { Links links.now n (length slots.old) }
-    ensures { record { slots = slots.exit.now; count = result }
-        ≡ placing n links.now n (record { slots = slots.entry.now; count = 0 }) }
+    ensures { record { slots = slots.new; count = result }
+        ≡ placing n links.now n (record { slots = slots.old; count = 0 }) }
 {
     let mut k: usize = 0;
     while k < n {

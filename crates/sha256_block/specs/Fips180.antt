@@ -3,7 +3,7 @@ use Rattle.std.specs.Prelude.{ℕ, zero, suc, ◌+◌, ◌-◌, ◌*◌, ◌/◌
 use Rattle.sha256_block.specs.declared.Work.{Work}
 
 infixl 65 ◌⊞◌
--- §3.2, operations on words. ∧, ∨ and ⊕ are bitAnd, bitOr and bitXor; ¬ is the complement, ⊞ addition modulo 2 ^ 32
+-- §3.2, operations on words. ∧, ∨ and ⊕ are bit_and, bit_or and bit_xor; ¬ is the complement, ⊞ addition modulo 2 ^ 32
 abbrev pub complement : ℕ → ℕ
 complement x = 2 ^ 32 - 1 - x
 
