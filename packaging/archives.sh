@@ -18,7 +18,7 @@ rt=$(command -v rt) || { echo 'The archives are built with the Rattle kit: rt is
 own=$(dirname "$(dirname "$(readlink -f "$rt")")")
 tools=$own/toolchain
 
-# The kit once more, in links, with a compiler that keeps the module. Its command finds the kit by where it stands itself, so that it is copied.
+# The kit once more, in links, with a compiler that keeps the module. The command rt finds its kit by its own path, so that it is copied.
 kit=$out/kit
 rm -rf "$kit"
 mkdir -p "$kit/bin" "$kit/toolchain/bin"

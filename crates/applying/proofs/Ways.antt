@@ -127,6 +127,9 @@ module _ (places waiting : ℕ) (w : List ℕ) (p : Progress) (task : Task) wher
   first_is f x q e v a g = to_depth (waiting + 1) w f x q (spent q e) (came v a) g ∙ (rw e)
 
   module _ (able : Able w task p) where
+    pub make_able : (node : Node) → task ≡ Make node → (0 < p.left) × Below p.used node
+    make_able node h = (able.some, (subst (TaskNames p.used) h able.names).0)
+
     module _ (t : ℕ) (μ : 2 * p.left ≡ t) where
       call_spent : (f x : Slot) → f.0 < p.used → x.0 < p.used → (q : Progress) → q ≡ spend p → Calls t w f x q
       call_spent f x hf hx q e =

@@ -20,7 +20,8 @@ pub fn line_end(s: &[u8], at: usize) -> usize
     end
 }
 
-// Reads the file of that name, as much as there is room for; answers how many bytes that is.
+// Reads the file of that name, as much as there is room for; answers how many bytes that is. A name that is no text is no
+// file's, and a file that cannot be opened has no bytes.
 pub fn read_file(rt: &impl Files, name: &[u8], bytes: &mut [u8]) -> usize
     ensures { IsPrefixLen result bytes.new }
 {

@@ -70,8 +70,8 @@ fn write(
     }
 }
 
-// What a check answers that lets pass.
-const PASSED: u32 = 0;
+// What a check answers where it refuses nothing.
+const NO_REFUSAL: u32 = 0;
 
 // Writes a bundle that 1 to 20 let pass, where 21 and 22 let it pass, too.
 fn admit(
@@ -92,7 +92,7 @@ fn admit(
     let s = nodes.of(file);
     let asked = list_exports(m, c.layout);
     let refused = check_fit(room(words), exports.len(), count(s), asked.count);
-    if refused != PASSED {
+    if refused != NO_REFUSAL {
         return LoadAnswer::Refused(refused);
     }
     write(m, asked, s, links, slots, words, exports)

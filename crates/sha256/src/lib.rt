@@ -15,8 +15,8 @@ pub struct Running {
     total: u64,
 }
 
-// With fewer bytes than these the count of bits fits after them and the mark, in one block.
-const ALONE: usize = 56;
+// After fewer bytes than these a block has room for the mark and the count of bits.
+const ONE_BLOCK: usize = 56;
 
 // A block with a part stored from a place on.
 fn store(block: [u8; 64], at: usize, part: &[u8]) -> [u8; 64]
@@ -110,7 +110,7 @@ impl Running {
         let v = self.h;
         let old = self.block;
         let marked = in_block(old, at, b"\x80");
-        if at < ALONE {
+        if at < ONE_BLOCK {
             return sha256_block::bytes_of(sha256_block::compress(v, &store(marked, 56, &size)));
         }
         let h = sha256_block::compress(v, &marked);

@@ -1,5 +1,5 @@
 -- SHA-256 as FIPS 180-4 has it, in its order. A word is a number below 2 ^ 32, a byte one below 2 ^ 8, a message a list of bytes.
-use Rattle.std.specs.Prelude.{ℕ, zero, suc, ◌+◌, ◌-◌, ◌*◌, ◌/◌, ◌%◌, ◌^◌, cond, List, [], ◌∷◌, ◌++◌, length, take, drop, replicate, bit_and, bit_or, bit_xor, nat_lt, slice_index, slice_index_or}
+use Rattle.std.specs.Prelude.{ℕ, zero, suc, ◌+◌, ◌-◌, ◌*◌, ◌/◌, ◌%◌, ◌^◌, cond, List, [], ◌∷◌, ◌++◌, length, take, drop, replicate, bit_and, bit_or, bit_xor, nat_lt, slice_index}
 use Rattle.sha256_block.specs.declared.Work.{Work}
 
 infixl 65 ◌⊞◌
@@ -134,8 +134,8 @@ rounds w t (suc n) s = round (rounds w t n s) (slice_index K (t + n)) (slice_ind
 -- 4: the next hash value
 unfoldable pub combined : List ℕ → Work → List ℕ
 combined v s =
-    (slice_index_or v 0 0 ⊞ s.a) ∷ (slice_index_or v 1 0 ⊞ s.b) ∷ (slice_index_or v 2 0 ⊞ s.c) ∷ (slice_index_or v 3 0 ⊞ s.d) ∷
-    (slice_index_or v 4 0 ⊞ s.e) ∷ (slice_index_or v 5 0 ⊞ s.f) ∷ (slice_index_or v 6 0 ⊞ s.g) ∷ (slice_index_or v 7 0 ⊞ s.h) ∷ []
+    (slice_index v 0 ⊞ s.a) ∷ (slice_index v 1 ⊞ s.b) ∷ (slice_index v 2 ⊞ s.c) ∷ (slice_index v 3 ⊞ s.d) ∷
+    (slice_index v 4 ⊞ s.e) ∷ (slice_index v 5 ⊞ s.f) ∷ (slice_index v 6 ⊞ s.g) ∷ (slice_index v 7 ⊞ s.h) ∷ []
 
 -- one block of 64 bytes
 unfoldable pub compress : List ℕ → List ℕ → List ℕ

@@ -3,14 +3,14 @@ use Rattle.std.proofs.Common.{◌≡◌, length, rules}
 use Rattle.sha256.proofs.Finishing.{finish_one, finish_two}
 use Rattle.sha256.proofs.Running.finish.Goals as goal
 
-pub returns-then-at-lt-ALONE : goal.returns-then-at-lt-ALONE
-returns-then-at-lt-ALONE c =
+pub returns-then-at-lt-ONE_BLOCK : goal.returns-then-at-lt-ONE_BLOCK
+returns-then-at-lt-ONE_BLOCK c =
     let s = c.args.self in
     let l : length s.block ≡ 64 = search rules in
     finish_one s l _ _
     c.length_bytes-size.ensures
     c.in_block-marked.ensures _ _ _
-    c.if-at-lt-ALONE.true c.store.ensures
+    c.if-at-lt-ONE_BLOCK.true c.store.ensures
     c.compress.ensures c.bytes_of.ensures
 
 pub returns : goal.returns
@@ -20,6 +20,6 @@ returns c =
     finish_two s l _ _
     c.length_bytes-size.ensures
     c.in_block-marked.ensures _ _ _ _
-    c.if-at-lt-ALONE.false
+    c.if-at-lt-ONE_BLOCK.false
     c.compress-h.ensures c.store-2.ensures
     c.compress-2.ensures c.bytes_of-2.ensures
