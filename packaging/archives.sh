@@ -13,7 +13,6 @@
 set -eu
 cd "$(dirname "$0")/.."
 out=$(mkdir -p "$1" && cd "$1" && pwd)
-machine=$(uname -m)
 rt=$(command -v rt) || { echo 'The archives are built with the Rattle kit: rt is not on the path.' >&2; exit 1; }
 own=$(dirname "$(dirname "$(readlink -f "$rt")")")
 tools=$own/toolchain
