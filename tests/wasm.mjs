@@ -50,7 +50,7 @@ function takeCall() {
 
 // ---- Each call again
 
-let memory = Buffer.from(calls.memory.buffer), wanted = Buffer.alloc(0);
+let memory = Buffer.from(calls.memory.buffer), wanted = Buffer.alloc(memory.length);
 const start = calls.__heap_base.value;
 
 // Finds a place for all that is lent, one after the other between guards; answers where it ends.
