@@ -73,7 +73,7 @@
  * which is for testers, up to ARBORICX_PLAIN_STACK. That is so in a program that is linked with -Wl,-z,now, or statically.
  * With lazy binding the first call of memset and of memcpy in a process goes through the loader, on the stack of whoever
  * calls, where it saves the processor's registers. With glibc 2.36 on an x86-64 with AVX-512 the first load then takes
- * 13 KiB, still within ARBORICX_STACK, but the first run 3.4 KiB, which is more than ARBORICX_RUN_STACK.
+ * 14 KiB, still within ARBORICX_STACK, but the first run 3.4 KiB, which is more than ARBORICX_RUN_STACK.
  * On the stack of a thread there are also its own frames and what the C library keeps there: give it ARBORICX_THREAD_EXTRA
  * bytes beside what its calls need, which is enough for either way of binding; or PTHREAD_STACK_MIN where that is more, as
  * on AArch64.
