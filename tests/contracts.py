@@ -10,18 +10,18 @@ import re
 
 import antt
 
-# what the contract of each public call says: LEFT are the lent tables at the exit and the answer, GIVEN the arguments that the shape
-# does not name itself, all in order
+# what the contract of each public call says: LEFT are the lent tables at the exit and, where the shape does not name it itself, the answer;
+# GIVEN the arguments that the shape does not name itself; all in order
 PUBLIC = {
-    "loader::load": "loaded LEFT ≡ load GIVEN",
-    "engine::run_from": "ran LEFT ≡ run_from GIVEN",
-    "engine::run": "ran LEFT ≡ run_from Scratch GIVEN",
-    "engine::carry_on": "ran LEFT ≡ run_from (Stop waiting steps) GIVEN",
-    "plain::run": "played LEFT ≡ plain_run GIVEN",
-    "bundle::check": "LEFT ≡ refusal GIVEN",
+    "loader::load": "loaded LEFT (by_number result) ≡ load GIVEN",
+    "engine::run_from": "ran LEFT (by_number result) ≡ run_from GIVEN",
+    "engine::run": "ran LEFT (by_number result) ≡ run_from Scratch GIVEN",
+    "engine::carry_on": "ran LEFT (by_number result) ≡ run_from (Stop waiting steps) GIVEN",
+    "plain::run": "played LEFT (by_number result) ≡ plain_run GIVEN",
+    "bundle::check": "answer_of result ≡ refusal GIVEN",
     "bundle::exports::name_part": "LEFT ≡ name_part GIVEN",
     "bundle::exports::export_name": "LEFT.now ≡ name_call GIVEN",
-    "bundle::exports::export_index": "LEFT ≡ index_call GIVEN",
+    "bundle::exports::export_index": "by_number result ≡ index_call GIVEN",
     "listing::list": "(result ≤ length out.new) × (take result out.new ≡ listing GIVEN) × (drop result out.new ≡ drop result out.old)",
 }
 # the same of the functions that are exported for C
@@ -48,6 +48,7 @@ SOURCES = [
     ("engine/Run", ["ran"]),
     ("engine/declared.From.TheVariants", ["Scratch", "Stop"]),
     ("plain/Run", ["played"]),
+    ("refusals/Numbers", ["by_number", "answer_of"]),
     ("listing/Listing", ["listing"]),
     ("sha256_block/Fips180", ["sha256"]),
     ("answers/Words", ["part_words", "version"]),
@@ -55,12 +56,11 @@ SOURCES = [
     ("Rattle.std.specs.Prelude", ["◌≡◌", "◌≤◌", "length", "take", "drop"]),
 ]
 WHERE = {name: source for source, names in SOURCES for name in names}
-# the types of answers, and the definition that gives the paper's numbers of each case
+# the types of answers and of endings, and the definition that gives the paper's numbers of each case
 ANSWERS = {
-    "loader::LoadAnswer": "loader/Answer.load_numbers",
-    "engine::RunAnswer": "engine/Answer.run_numbers",
-    "plain::PlainAnswer": "plain/Answer.plain_numbers",
-    "bundle::exports::IndexAnswer": "bundle/Exports.index_numbers",
+    "loader::Accepted": "loader/Answer.load_numbers",
+    "engine::Ending": "engine/Answer.run_numbers",
+    "plain::PlainEnding": "plain/Answer.plain_numbers",
 }
 # the start of an item of a source file
 ITEM = re.compile(r'^( *)(?:pub(?:\(crate\))? )?(?:extern "C" )?(fn|const|struct|enum|impl|mod|use|ghost)\b *(\w*)|^ *#\[', re.M)
@@ -154,7 +154,7 @@ def heads(name):
 def equation(shape, parameters, returned):
     """What a contract of that shape says of these parameters, each a name and a type."""
     lent = [x for x, kind in parameters if kind.startswith("&mut")]
-    left = [f"{x}.new" for x in lent] + (["result"] if returned else [])
+    left = [f"{x}.new" for x in lent] + (["result"] if returned and not re.search(r"\bresult\b", shape) else [])
     named = [x for x in NAMED if re.search(rf"\b{x}\b", shape)]
     taken = [(x, kind) for x, kind in parameters if x not in named and (x not in WRITTEN or x not in lent)]
     given = [f"{x}.old" if kind.startswith("&mut") else f"{x}.now" if kind.startswith("&") else x for x, kind in taken]
@@ -188,14 +188,22 @@ def public_faults(sources, name):
 
 
 def answer_faults(sources, name, numbers):
-    """Whether its numbers take the fields of each case in the order in which the code declares them, under their names; `n` is a number."""
+    """Whether its numbers take the fields of each case in the order in which the code declares them, under their names; `n` is a number. Of a
+    struct, whether they take each field under its own name."""
     crate, module, definition = re.fullmatch(r"(\w+)/(\w+)\.(\w+)", numbers).groups()
-    cases = dict(re.findall(rf"^{definition} \((\w+)(.*?)\) =", sources.texts[f"crates/{crate}/specs/{module}.antt"], re.M))
+    text, declared = sources.texts[f"crates/{crate}/specs/{module}.antt"], re.sub(r" *//[^\n]*\n", "\n", sources.declared(name))
+    cases = dict(re.findall(rf"^{definition} \((?:Ok \()?(\w+)(.*?)\)+ =", text, re.M))
     found = []
+    if record := re.match(r"(?:pub )?struct \w+ \{(.*)\}", sources.declared(name), re.S):
+        line = re.search(rf"^{definition} \(Ok (\w+)\) = (.*)$", sources.texts[f"crates/{crate}/specs/{module}.antt"], re.M)
+        for field in re.findall(r"(\w+):", record[1]):
+            if not line or not re.search(rf"\b{field} = {line[1]}\.{field}\b", line[2]):
+                found.append(f"{sources.place(name)}: {name}: {numbers} takes another field for '{field}'")
+        return found
     for case, fields in re.findall(r"^    (\w+)\s*(\(.*?\)|\{.*?\})?,$", re.sub(r" *//[^\n]*\n", "\n", sources.declared(name)), re.M | re.S):
-        named = re.findall(r"(\w+):", fields)
+        named = re.findall(r"(\w+):(?!:)", fields)
         taken = cases.get(case, "").split()
-        if named and [{"n": "number"}.get(x, x) for x in taken] != named or not named and len(taken) != len(re.findall(r"\w+", fields)):
+        if named and taken != named or not named and len(taken) != len(re.findall(r"\w+", fields)):
             found.append(f"{sources.place(name)}: {name}: {numbers} takes '{' '.join(taken)}' of {case}")
     return found
 
@@ -246,6 +254,7 @@ def wrong(texts, sources):
         ("arboricx::arboricx_load", "exports: &mut", "exports: &"),
         ("arboricx::arboricx_export_index", "file.now name.now", "name.now file.now"),
         ("engine::run", "jobs.new", "words.new"),
+        ("engine::run", "(by_number result)", "result"),
         ("engine::run", "used fuel", "used 0"),
         ("engine::run", "used fuel", "used (fuel - 1)"),
         ("engine::run", "f x used", "f f used"),
@@ -266,9 +275,9 @@ def wrong(texts, sources):
     ):
         yield f"'{new}' in the contract of {name}", other(name, old, new), f"{name}: its contract does not say"
     for path, old, new, name in (
-        ("crates/plain/src/lib.rt", "{ number: u32, steps: u32, used: u32 }", "{ number: u32, used: u32, steps: u32 }", "plain::PlainAnswer"),
-        ("crates/engine/src/lib.rt", "        f: i32,\n        x: i32,\n        steps: u32,", "        x: i32,\n        f: i32,\n        steps: u32,", "engine::RunAnswer"),
-        ("crates/loader/specs/Answer.antt", "(Accepted nodes exports)", "(Accepted exports nodes)", "loader::LoadAnswer"),
+        ("crates/plain/src/lib.rt", "{ why: Stop, steps: u32, used: u32 }", "{ why: Stop, used: u32, steps: u32 }", "plain::PlainEnding"),
+        ("crates/engine/src/lib.rt", "        f: i32,\n        x: i32,\n        steps: u32,", "        x: i32,\n        f: i32,\n        steps: u32,", "engine::Ending"),
+        ("crates/loader/specs/Answer.antt", "nodes = c.nodes; exports = c.exports", "nodes = c.exports; exports = c.nodes", "loader::Accepted"),
     ):
         yield f"fields of {name} in another order", {path: texts[path].replace(old, new, 1)}, f"{name}: {ANSWERS[name]} takes"
     yield "a contract of another form", other("engine::run", "ensures {", "ensures {\n       "), "engine::run: its contract is not understood"

@@ -1,3 +1,1 @@
-pub mod Slots
-pub mod Answers
 pub mod Meaning

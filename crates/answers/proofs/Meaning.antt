@@ -3,11 +3,11 @@ use Prim.Native.Nat.{ℕ, ◌+◌}
 use mathlib.Core.Path.{◌≡◌, refl}
 use mathlib.Core.List.{List, [], ◌∷◌}
 use native.Mathlib.Nat.{add-zero, zero-add}
-use Rattle.engine.specs.declared.RunAnswer.{RunAnswer}
-use Rattle.engine.specs.declared.RunAnswer.TheVariants.{Refused, Done, Stopped}
-use Rattle.engine.specs.Answer.{run_numbers}
-use Rattle.plain.specs.declared.PlainAnswer.{PlainAnswer}
-use Rattle.plain.specs.declared.PlainAnswer.TheVariants as plain
+use Rattle.std.specs.Prelude.{Ok, Err}
+use Rattle.engine.specs.declared.Ending.TheVariants.{Done, Stopped}
+use Rattle.engine.specs.Answer.{RunAnswer, run_numbers}
+use Rattle.plain.specs.declared.PlainEnding.TheVariants as plain
+use Rattle.plain.specs.Answer.{PlainAnswer}
 use Rattle.plain.specs.Answer as plainly
 use Rattle.plain.specs.Run.{played}
 use Rattle.engine.specs.Run.{ran}
@@ -27,20 +27,20 @@ run_words_are = (λ i. refl, words)
         ((run_numbers a).number ∷ (slot_word (run_numbers a).slot + slot_word (run_numbers a).f) ∷ slot_word (run_numbers a).x ∷
         (run_numbers a).steps ∷ (run_numbers a).used ∷ (run_numbers a).waiting ∷ [])
         (run_numbers a).number
-    words w j (Refused n) = refl
-    words w j (Done slot steps used) = rw (add-zero (slot_word slot))
-    words w j (Stopped n f x steps used waiting) = rw (zero-add (slot_word f))
+    words w j (Err n) = refl
+    words w j (Ok (Done slot steps used)) = rw (add-zero (slot_word slot))
+    words w j (Ok (Stopped why f x steps used waiting)) = rw (zero-add (slot_word f))
 
 pub plain_words_are : PlainWordsAre
-plain_words_are = (words, λ w n. refl, λ w i steps used. refl, λ w n steps used. refl)
+plain_words_are = (words, λ w n. refl, λ w i steps used. refl, λ w why steps used. refl)
   where
     words : (w : List ℕ) (a : PlainAnswer) →
         after_plain (played w a) ≡
         left_one w ((plainly.plain_numbers a).number ∷ slot_word (plainly.plain_numbers a).slot ∷ (plainly.plain_numbers a).steps ∷ (plainly.plain_numbers a).used ∷ [])
         (plainly.plain_numbers a).number
-    words w (plain.Refused n) = refl
-    words w (plain.Done slot steps used) = refl
-    words w (plain.Stopped n steps used) = refl
+    words w (Err n) = refl
+    words w (Ok (plain.Done slot steps used)) = refl
+    words w (Ok (plain.Stopped why steps used)) = refl
 
 pub index_words_are : IndexWordsAre
 index_words_are = (λ n. refl, λ i. refl)

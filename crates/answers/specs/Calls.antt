@@ -1,12 +1,11 @@
 -- What a call leaves for C: the lent tables, the words of its answer, and the number that it returns, which is the first of them.
-use Rattle.std.specs.Prelude.{ℕ, List}
+use Rattle.std.specs.Prelude.{ℕ, List, Result}
 use Rattle.loader.specs.Load.{Loaded, loaded}
 use Rattle.loader.specs.Answer as load
 use Rattle.engine.specs.Run.{Ran, ran}
 use Rattle.engine.specs.Answer as run
 use Rattle.plain.specs.Run.{Played, played}
 use Rattle.plain.specs.Answer as plain
-use Rattle.bundle.specs.declared.exports.IndexAnswer.{IndexAnswer}
 use Rattle.bundle.specs.Exports as exports
 use Rattle.answers.specs.Words.{load_words, run_words, plain_words, index_words}
 
@@ -34,5 +33,5 @@ after_plain (played words a) = left_one words (plain_words a) (plain.plain_numbe
 pub data Told : Type 0 where
   told : List ℕ → ℕ → Told
 
-abbrev pub after_index : IndexAnswer → Told
+abbrev pub after_index : Result ℕ ℕ → Told
 after_index a = told (index_words a) (exports.index_numbers a).number

@@ -1,13 +1,13 @@
 -- What C gets of each answer: document 01's numbers. The proofs are in proofs/Meaning.antt.
-use Rattle.std.specs.Prelude.{ℕ, ◌+◌, ◌≡◌, List, [], ◌∷◌, pos}
-use Rattle.loader.specs.declared.LoadAnswer.TheVariants as load
+use Rattle.std.specs.Prelude.{ℕ, ◌+◌, ◌≡◌, List, [], ◌∷◌, pos, Ok, Err}
+use Rattle.loader.specs.Accepted.{accepted}
 use Rattle.loader.specs.Load.{loaded}
-use Rattle.bundle.specs.declared.exports.IndexAnswer.TheVariants as index
-use Rattle.engine.specs.declared.RunAnswer.{RunAnswer}
-use Rattle.engine.specs.Answer.{run_numbers}
+use Rattle.engine.specs.Answer.{RunAnswer, run_numbers}
 use Rattle.engine.specs.Run.{ran}
-use Rattle.plain.specs.declared.PlainAnswer.{PlainAnswer}
-use Rattle.plain.specs.declared.PlainAnswer.TheVariants.{Refused, Done, Stopped}
+use Rattle.stepping.specs.declared.stops.Stop.{Stop}
+use Rattle.stepping.specs.Stops.{stops_with}
+use Rattle.plain.specs.declared.PlainEnding.TheVariants.{Done, Stopped}
+use Rattle.plain.specs.Answer.{PlainAnswer}
 use Rattle.plain.specs.Answer as plain
 use Rattle.plain.specs.Run.{played}
 use Rattle.answers.specs.Words.{slot_word, part_words}
@@ -17,8 +17,8 @@ use Rattle.answers.specs.Calls.{left, after_load, after_run, left_one, after_pla
 abbrev pub LoadWordsAre : Type 0
 LoadWordsAre =
     (w e : List ℕ) →
-    ((n : ℕ) → after_load (loaded w e (load.Refused n)) ≡ left w e (n ∷ 0 ∷ 0 ∷ []) n) ×
-    ((nodes exports : ℕ) → after_load (loaded w e (load.Accepted nodes exports)) ≡ left w e (0 ∷ nodes ∷ exports ∷ []) 0)
+    ((n : ℕ) → after_load (loaded w e (Err n)) ≡ left w e (n ∷ 0 ∷ 0 ∷ []) n) ×
+    ((nodes exports : ℕ) → after_load (loaded w e (accepted nodes exports)) ≡ left w e (0 ∷ nodes ∷ exports ∷ []) 0)
 
 -- Of a run or a carry-on: both tables as it leaves them; its numbers, where a result and an f share a word, since a done run has no f, a stopped
 -- one no result, and numbers not named are 0; the number. A slot is its own word; none that is answered is negative (SlotsNamed of engine).
@@ -41,14 +41,15 @@ PlainWordsAre =
     left_one w
     ((plain.plain_numbers a).number ∷ slot_word (plain.plain_numbers a).slot ∷ (plain.plain_numbers a).steps ∷ (plain.plain_numbers a).used ∷ [])
     (plain.plain_numbers a).number) ×
-    ((w : List ℕ) (n : ℕ) → after_plain (played w (Refused n)) ≡ left_one w (n ∷ 0 ∷ 0 ∷ 0 ∷ []) n) ×
-    ((w : List ℕ) (i steps used : ℕ) → after_plain (played w (Done (pos i) steps used)) ≡ left_one w (0 ∷ i ∷ steps ∷ used ∷ []) 0) ×
-    ((w : List ℕ) (n steps used : ℕ) → after_plain (played w (Stopped n steps used)) ≡ left_one w (n ∷ 0 ∷ steps ∷ used ∷ []) n)
+    ((w : List ℕ) (n : ℕ) → after_plain (played w (Err n)) ≡ left_one w (n ∷ 0 ∷ 0 ∷ 0 ∷ []) n) ×
+    ((w : List ℕ) (i steps used : ℕ) → after_plain (played w (Ok (Done (pos i) steps used))) ≡ left_one w (0 ∷ i ∷ steps ∷ used ∷ []) 0) ×
+    ((w : List ℕ) (why : Stop) (steps used : ℕ) →
+    after_plain (played w (Ok (Stopped why steps used))) ≡ left_one w (stops_with why ∷ 0 ∷ steps ∷ used ∷ []) (stops_with why))
 
 -- Of an index by name: a refusal's number and 0, or 0 and the index; the number.
 abbrev pub IndexWordsAre : Type 0
 IndexWordsAre =
-    ((n : ℕ) → after_index (index.Refused n) ≡ told (n ∷ 0 ∷ []) n) × ((i : ℕ) → after_index (index.Index i) ≡ told (0 ∷ i ∷ []) 0)
+    ((n : ℕ) → after_index (Err n) ≡ told (n ∷ 0 ∷ []) n) × ((i : ℕ) → after_index (Ok i) ≡ told (0 ∷ i ∷ []) 0)
 
 -- Of a name by index: where it starts, and its length.
 abbrev pub PartWordsAre : Type 0

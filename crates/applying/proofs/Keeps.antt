@@ -10,7 +10,7 @@ use Rattle.table.specs.Sound.{SlotsPass}
 use Rattle.table.proofs.Tests.{by_test}
 use Rattle.table.proofs.SoundLaws.{sound_next}
 use Rattle.applying.specs.declared.Progress.{Progress}
-use Rattle.applying.specs.declared.Applied.TheVariants.{Gave, Halted}
+use Rattle.std.specs.Prelude.{Ok, Err}
 use Rattle.applying.specs.declared.Task.{Task}
 use Rattle.applying.specs.declared.Task.TheVariants.{Make, Give, Go, Both, Then}
 use Rattle.applying.specs.Rules.{rule}
@@ -25,17 +25,17 @@ pub record Kept (used : ℕ) (w : List ℕ) (t : Slot) (q : Progress) : Type 0 w
   pub more : used ≤ q.used
 
 abbrev pub Keeps : ℕ → Came → Type 0
-Keeps used (came w (Gave t q)) = Kept used w t q
-Keeps used (came w (Halted n q)) = Unit {0}
+Keeps used (came w (Ok (t, q))) = Kept used w t q
+Keeps used (came w (Err h)) = Unit {0}
 
 keeps_on : (n m : ℕ) → n ≤ m → (c : Came) → Keeps m c → Keeps n c
-keeps_on n m h (came w (Gave t q)) k = record { slots = k.slots; slot = k.slot; more = omega (arith, k.more) }
-keeps_on n m h (came w (Halted i q)) k = tt
+keeps_on n m h (came w (Ok (t, q))) k = record { slots = k.slots; slot = k.slot; more = omega (arith, k.more) }
+keeps_on n m h (came w (Err e)) k = tt
 
 then_keeps : (n : ℕ) (c : Came) (k : List ℕ → Slot → Progress → Came) → Keeps n c →
     ((w : List ℕ) (t : Slot) (q : Progress) → Kept n w t q → Keeps q.used (k w t q)) → Keeps n (applied_then c k)
-then_keeps n (came w (Gave t q)) k h g = keeps_on n q.used h.more (k w t q) (g w t q h)
-then_keeps n (came w (Halted m q)) k h g = tt
+then_keeps n (came w (Ok (t, q))) k h g = keeps_on n q.used h.more (k w t q) (g w t q h)
+then_keeps n (came w (Err e)) k h g = tt
 
 -- of an application
 abbrev Keeping : Application → Type 0

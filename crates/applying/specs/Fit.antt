@@ -1,15 +1,14 @@
 -- What the parts of the plain engine work on.
-use Rattle.std.specs.Prelude.{ℕ, ◌≤◌, ◌<◌, ◌≡◌, List}
+use Rattle.std.specs.Prelude.{ℕ, ◌≤◌, ◌<◌, ◌≡◌, List, Ok, Err}
 use Rattle.table.specs.declared.slots.Slot.{Slot}
 use Rattle.table.specs.declared.slots.Node.TheVariants.{Leaf}
 use Rattle.table.specs.Limits.{max_slots}
 use Rattle.table.specs.Slots.{Below}
 use Rattle.table.specs.Sound.{SlotsPass}
 use Rattle.applying.specs.declared.Progress.{Progress}
-use Rattle.applying.specs.declared.Applied.{Applied}
-use Rattle.applying.specs.declared.Applied.TheVariants.{Gave, Halted}
 use Rattle.applying.specs.declared.Task.{Task}
 use Rattle.applying.specs.declared.Task.TheVariants.{Make, Give, Go, Both, Then}
+use Rattle.applying.specs.Apply.{Applied}
 
 -- what applying f to x works on
 pub record Fit (w : List ℕ) (f x : Slot) (p : Progress) : Type 0 where
@@ -33,5 +32,5 @@ pub record Able (w : List ℕ) (task : Task) (p : Progress) : Type 0 where
 
 -- what an application with so much fuel comes to: no more is left, and the slot that is given has a number that the calls have
 abbrev pub Ends : ℕ → Applied → Type 0
-Ends fuel (Gave t p) = (p.left ≤ fuel) × (t.0 < max_slots)
-Ends fuel (Halted n p) = p.left ≤ fuel
+Ends fuel (Ok (t, p)) = (p.left ≤ fuel) × (t.0 < max_slots)
+Ends fuel (Err h) = h.at.left ≤ fuel

@@ -6,13 +6,14 @@ ghost use Rattle.std.specs.Prelude.{◌≡◌, ◌-◌, ◌<◌};
 ghost use Rattle.table.specs.Limits.{max_slots};
 ghost use Rattle.table.specs.Slots.{room, node_at, Below};
 ghost use Rattle.applying.specs.Rules.{rule};
-ghost use Rattle.applying.specs.Apply.{came, spend, grow, make, carry_out, apply};
+ghost use Rattle.applying.specs.Apply.{came, spend, grow, make, carry_out, apply, by_fuel};
 ghost use Rattle.applying.specs.Fit.{Fit, Able};
 
+use stepping::stops::Stop;
 use table::slots::{Node, Slot, node_at, put_node, room};
 
-// What a rule leaves to be done.
-#[derive(Drop)]
+// What a rule leaves to be done: an enum and no closures, since the definition of the rules names each.
+#[derive(Clone, Copy)]
 pub enum Task {
     // 1 and 2: make a node.
     Make(Node),
@@ -26,18 +27,18 @@ pub enum Task {
     Then(Slot, Slot, Slot),
 }
 
-// How far it has come: the fuel left, and the slots used.
+// How far it has come: the fuel left, and the slots used. Not copied: fuel is spent once.
 #[derive(Drop)]
 pub struct Progress {
     pub left: u32,
     pub used: u32,
 }
 
-// What an application comes to: the tree in a slot, or a stop by its number.
+// Why an application stops before it gives a tree, and how far it has come.
 #[derive(Drop)]
-pub enum Applied {
-    Gave(Slot, Progress),
-    Halted(u32, Progress),
+pub struct Halt {
+    pub why: Stop,
+    pub at: Progress,
 }
 
 impl Progress {
@@ -67,93 +68,105 @@ impl Progress {
     }
 }
 
-// What applying f to x leaves to be done: the seven rules, in their order.
+// What applying f to x leaves to be done: the seven rules, in their order. They stand here again, since this engine is there to be
+// compared with the run call.
+#[tactic(auto, unfolding(crate::specs::Rules::rule, crate::specs::Rules::rules))]
 fn rule(words: &[u32], f: Slot, x: Slot) -> Task
     requires { (f.0 < room words.now) × (x.0 < room words.now) × Below (room words.now) (node_at words.now f.0) }
     ensures { result ≡ rule words.now f x }
 {
-    let function = node_at(words, f);
-    match function {
+    match node_at(words, f) {
         Node::Leaf => Task::Make(Node::Stem(x)),
         Node::Stem(a) => Task::Make(Node::Fork(a, x)),
-        Node::Fork(g, c) => {
-            let first = node_at(words, g);
-            match first {
-                Node::Leaf => Task::Give(c),
-                Node::Stem(a) => Task::Both(a, c, x),
-                Node::Fork(a, b) => {
-                    let argument = node_at(words, x);
-                    match argument {
-                        Node::Leaf => Task::Give(a),
-                        Node::Stem(u) => Task::Go(b, u),
-                        Node::Fork(u, v) => Task::Then(c, u, v),
-                    }
-                }
-            }
-        }
+        Node::Fork(g, c) => match node_at(words, g) {
+            Node::Leaf => Task::Give(c),
+            Node::Stem(a) => Task::Both(a, c, x),
+            Node::Fork(a, b) => match node_at(words, x) {
+                Node::Leaf => Task::Give(a),
+                Node::Stem(u) => Task::Go(b, u),
+                Node::Fork(u, v) => Task::Then(c, u, v),
+            },
+        },
     }
 }
 
 // Rules 1 and 2: a new node takes the next slot.
-fn make(words: &mut [u32], node: Node, p: Progress) -> Applied
+#[tactic(auto, using(table::proofs::SlotLaws::room_most), unfolding(crate::specs::Apply::make))]
+fn make(words: &mut [u32], node: Node, p: Progress) -> Result<(Slot, Progress), Halt>
     requires { (0 < p.left) × Below p.used node }
     ensures { came words.new result ≡ make words.old p node }
 {
     let used = p.used;
     if used < room(words) {
         put_node(words, Slot(used as usize), node);
-        let spent = p.spend();
-        Applied::Gave(Slot(used as usize), spent.grow())
+        Ok((Slot(used as usize), p.spend().grow()))
     } else {
-        Applied::Halted(32, p)
+        Err(Halt {
+            why: Stop::OutOfSlots,
+            at: p,
+        })
     }
 }
 
 // Applies slot f to slot x, while so many jobs wait.
+#[tactic(auto, using(crate::proofs::Ways::returns_none, crate::proofs::Ways::returns_some, crate::proofs::Ways::reads_rule, crate::proofs::Ways::rule_able))]
 #[cycle(apply_carry_out)]
-pub fn apply(words: &mut [u32], f: Slot, x: Slot, p: Progress, waiting: u32, places: u32) -> Applied
+pub fn apply(
+    words: &mut [u32],
+    f: Slot,
+    x: Slot,
+    p: Progress,
+    waiting: u32,
+    places: u32,
+) -> Result<(Slot, Progress), Halt>
     requires { Fit words.old f x p }
     ensures { came words.new result ≡ apply p.left places waiting words.old f x p }
 {
     if p.left == 0 {
-        return Applied::Halted(31, p);
+        return Err(Halt {
+            why: Stop::OutOfFuel,
+            at: p,
+        });
     }
-    let task = rule(words, f, x);
-    carry_out(words, task, p, waiting, places)
+    carry_out(words, rule(words, f, x), p, waiting, places)
 }
 
 // Carries out what the rule left: the paper's "continue", which is a keyword here.
+#[tactic(auto, using(crate::proofs::Ways::then_gave, crate::proofs::Ways::then_halted), unfolding(crate::specs::Apply::carry_out))]
 #[cycle(apply_carry_out)]
-fn carry_out(words: &mut [u32], task: Task, p: Progress, waiting: u32, places: u32) -> Applied
+fn carry_out(
+    words: &mut [u32],
+    task: Task,
+    p: Progress,
+    waiting: u32,
+    places: u32,
+) -> Result<(Slot, Progress), Halt>
     requires { Able words.old task p }
-    ensures { came words.new result ≡ carry_out (apply (p.left - 1) places) places waiting words.old p task }
+    ensures { came words.new result ≡ carry_out (by_fuel places) places waiting words.old p task }
 {
     match task {
         Task::Make(node) => make(words, node, p),
-        Task::Give(t) => Applied::Gave(t, p.spend()),
+        Task::Give(t) => Ok((t, p.spend())),
         Task::Go(f, x) => apply(words, f, x, p.spend(), waiting, places),
         Task::Both(a, b, x) => {
             if places <= waiting {
-                return Applied::Halted(33, p);
+                return Err(Halt {
+                    why: Stop::OutOfPlaces,
+                    at: p,
+                });
             }
-            let first = apply(words, a, x, p.spend(), waiting + 1, places);
-            let Applied::Gave(u, q) = first else {
-                return first;
-            };
-            let second = apply(words, b, x, q, waiting + 1, places);
-            let Applied::Gave(v, r) = second else {
-                return second;
-            };
+            let (u, q) = apply(words, a, x, p.spend(), waiting + 1, places)?;
+            let (v, r) = apply(words, b, x, q, waiting + 1, places)?;
             apply(words, u, v, r, waiting, places)
         }
         Task::Then(c, u, v) => {
             if places <= waiting {
-                return Applied::Halted(33, p);
+                return Err(Halt {
+                    why: Stop::OutOfPlaces,
+                    at: p,
+                });
             }
-            let first = apply(words, c, u, p.spend(), waiting + 1, places);
-            let Applied::Gave(t, q) = first else {
-                return first;
-            };
+            let (t, q) = apply(words, c, u, p.spend(), waiting + 1, places)?;
             apply(words, t, v, q, waiting, places)
         }
     }

@@ -28,7 +28,10 @@ pub extern "C" fn arboricx_version() -> u32
 pub extern "C" fn arboricx_check(file: &[u8]) -> u32
     ensures { result ≡ refusal file.now }
 {
-    bundle::check(file)
+    match bundle::check(file) {
+        Ok(()) => 0,
+        Err(refused) => u32::from(refused),
+    }
 }
 
 // Loads a bundle. The answer: number, node count, export count.
@@ -48,6 +51,7 @@ pub extern "C" fn arboricx_load(
 }
 
 // Runs from scratch or from a stop, and writes the words of the answer. The tables come first, so that they are passed in registers.
+#[tactic(auto, using(crate::proofs::Named::run_named))]
 fn run_words(
     words: &mut [u32],
     jobs: &mut [u32],
@@ -106,6 +110,7 @@ pub extern "C" fn arboricx_carry_on(
 }
 
 // Applies slot f to slot x on the plain engine, with room for so many jobs. The answer: number; result slot; steps; used count.
+#[tactic(auto, using(crate::proofs::Named::plain_named))]
 #[unsafe(no_mangle)]
 pub extern "C" fn arboricx_plain_run(
     words: &mut [u32],
@@ -125,6 +130,7 @@ pub extern "C" fn arboricx_plain_run(
 }
 
 // The index of the export with a name. The answer: number, index.
+#[tactic(auto, using(crate::proofs::Named::index_named))]
 #[unsafe(no_mangle)]
 pub extern "C" fn arboricx_export_index(file: &[u8], name: &[u8], answer: &mut [u32; 2]) -> u32
     ensures { told answer.new result ≡ after_index (index_call file.now name.now) }

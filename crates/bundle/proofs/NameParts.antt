@@ -1,4 +1,5 @@
 -- Where none of 1 to 14 holds, the part that is a name lies in the file, and its bytes are the text in the manifest section.
+use Rattle.std.specs.Prelude.{Some}
 use Prim.Native.Nat.{ℕ, ◌+◌, ◌≤◌}
 use mathlib.Core.Path.{◌≡◌, ◌∙◌}
 use mathlib.Core.List.{List}
@@ -6,7 +7,6 @@ use native.Mathlib.Omega.{arith}
 use lib.ListN.{length}
 use Rattle.wire.specs.Wire.{span}
 use Rattle.wire.proofs.Spans.{span_length, span_within}
-use Rattle.manifest_shape.specs.declared.parts.Parsed.TheVariants.{To}
 use Rattle.manifest.specs.Content.{text_at, count_at}
 use Rattle.manifest.specs.Judged.{export_place}
 use Rattle.manifest.proofs.Places.{place_text}
@@ -23,7 +23,7 @@ module _ (file : List ℕ) (z : name_refusal file ≡ 0) where
   unfolding section size
   section_length = span_length file (manifest_start file) size (names_section file z manifest_kind)
 
-  module _ (i : ℕ) {at : ℕ} (g : export_place (manifest_section file) i ≡ To at) where
+  module _ (i : ℕ) {at : ℕ} (g : export_place (manifest_section file) i ≡ Some at) where
     in_section : at + 4 + count_at (manifest_section file) at ≤ size
     in_section = rw (← section_length) (place_text (manifest_section file) i g).inside
 
@@ -32,7 +32,7 @@ module _ (file : List ℕ) (z : name_refusal file ≡ 0) where
     name_inside = omega (arith, in_section, names_section file z manifest_kind)
 
     pub name_bytes :
-        text_at (manifest_section file) (To at)
+        text_at (manifest_section file) (Some at)
         ≡ span file (manifest_start file + (at + 4)) (count_at (manifest_section file) at)
     unfolding section size
     name_bytes =

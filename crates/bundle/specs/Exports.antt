@@ -1,15 +1,10 @@
 -- The two calls on exports.
-use Rattle.std.specs.Prelude.{ℕ, ◌+◌, List, [], ◌∷◌, cond, eqb}
-use Rattle.lists.specs.declared.Found.{Found}
-use Rattle.lists.specs.declared.Found.TheVariants.{Index as FoundAt, Nothing}
+use Rattle.std.specs.Prelude.{ℕ, ◌+◌, List, [], ◌∷◌, cond, eqb, Option, Some, None, Result, Ok, Err}
+use Rattle.lists.specs.Options.{on_some}
 use Rattle.wire.specs.Wire.{span}
-use Rattle.manifest_shape.specs.declared.parts.Parsed.{Parsed}
-use Rattle.manifest_shape.specs.Shape.{on_parsed}
 use Rattle.manifest.specs.Content.{count_at}
 use Rattle.manifest.specs.Judged.{export_place, export_index}
 use Rattle.wire.specs.declared.Part.{Part}
-use Rattle.bundle.specs.declared.exports.IndexAnswer.{IndexAnswer}
-use Rattle.bundle.specs.declared.exports.IndexAnswer.TheVariants.{Refused, Index}
 use Rattle.container.specs.Directory.{entries, entry_of, manifest_kind, manifest_section}
 use Rattle.bundle.specs.Checks.{name_refusal}
 
@@ -21,9 +16,9 @@ abbrev pub manifest_start : List ℕ → ℕ
 manifest_start file = (entry_of manifest_kind (entries file)).offset
 
 -- the name of an export that stands at a position of the manifest section: after its length, and as long as that says
-unfoldable pub name_at : List ℕ → Parsed → Part
+unfoldable pub name_at : List ℕ → Option ℕ → Part
 name_at file p =
-    on_parsed p
+    on_some p
     (λ at. record { start = manifest_start file + (at + 4); size = count_at (manifest_section file) at })
     empty_part
 
@@ -37,24 +32,24 @@ unfoldable pub name_call : List ℕ → ℕ → List ℕ
 name_call file i = span file (name_part file i).start (name_part file i).size
 
 -- the empty name means the first export
-unfoldable pub index_asked : List ℕ → List ℕ → Found
-index_asked m [] = FoundAt 0
+unfoldable pub index_asked : List ℕ → List ℕ → Option ℕ
+index_asked m [] = Some 0
 index_asked m (b ∷ bs) = export_index m (b ∷ bs)
 
-abbrev pub index_answer : Found → IndexAnswer
-index_answer (FoundAt i) = Index i
-index_answer Nothing = Refused 25
+abbrev pub index_answer : Option ℕ → Result ℕ ℕ
+index_answer (Some i) = Ok i
+index_answer None = Err 25
 
 -- export index by name: with 1 to 14 it answers that refusal, else 25 or the index
-unfoldable pub index_call : List ℕ → List ℕ → IndexAnswer
+unfoldable pub index_call : List ℕ → List ℕ → Result ℕ ℕ
 index_call file name =
-    cond (eqb (name_refusal file) 0) (index_answer (index_asked (manifest_section file) name)) (Refused (name_refusal file))
+    cond (eqb (name_refusal file) 0) (index_answer (index_asked (manifest_section file) name)) (Err (name_refusal file))
 
 -- the paper's numbers of an answer: the number, and the index
 pub record IndexNumbers : Type 0 where
   pub number : ℕ
   pub index : ℕ
 
-abbrev pub index_numbers : IndexAnswer → IndexNumbers
-index_numbers (Refused n) = record { number = n; index = 0 }
-index_numbers (Index i) = record { number = 0; index = i }
+abbrev pub index_numbers : Result ℕ ℕ → IndexNumbers
+index_numbers (Err n) = record { number = n; index = 0 }
+index_numbers (Ok i) = record { number = 0; index = i }

@@ -1,16 +1,12 @@
 -- What the checks come to: the number of the first that holds, or what was found of the file.
-use Rattle.std.specs.Prelude.{ℕ, List}
+use Rattle.std.specs.Prelude.{ℕ, List, Result, Ok, Err}
+use Rattle.lists.specs.Options.{on_some}
 use Rattle.refusals.specs.Refusals.{answer, unless_refused}
 use Rattle.manifest_shape.specs.declared.Layout.{Layout}
 use Rattle.manifest_shape.specs.Shape.{manifest_of}
-use Rattle.manifest.specs.Judged.{on_shape}
 use Rattle.container.specs.Directory.{manifest_section}
 use Rattle.container.specs.Checks.{sections_of}
 use Rattle.bundle.specs.declared.Outline.{Outline}
-use Rattle.bundle.specs.declared.Checked.{Checked}
-use Rattle.bundle.specs.declared.Checked.TheVariants.{Refused as ManifestRefused, Passed as ManifestPassed}
-use Rattle.bundle.specs.declared.Verdict.{Verdict}
-use Rattle.bundle.specs.declared.Verdict.TheVariants.{Refused, Passed}
 use Rattle.bundle.specs.Checks.{manifest_checks, name_refusal, refusal}
 
 -- where the parts of the manifest section m start
@@ -18,11 +14,11 @@ abbrev pub no_layout : Layout
 no_layout = record { strings = 0; capabilities = 0; closure = 0; roots = 0; exports = 0 }
 
 unfoldable pub layout_of : List ℕ → Layout
-layout_of m = on_shape (manifest_of m) (λ l. l) no_layout
+layout_of m = on_some (manifest_of m) (λ l. l) no_layout
 
 -- what 12 to 14 come to
-unfoldable pub checked_manifest : List ℕ → Checked
-checked_manifest m = unless_refused (answer (manifest_checks m)) ManifestRefused (ManifestPassed (layout_of m))
+unfoldable pub checked_manifest : List ℕ → Result Layout ℕ
+checked_manifest m = unless_refused (answer (manifest_checks m)) Err (Ok (layout_of m))
 
 -- where the two sections lie, and where the parts of the manifest start
 unfoldable pub outline_of : List ℕ → Outline
@@ -34,9 +30,9 @@ outline_of file =
     }
 
 -- what 1 to 14 come to
-unfoldable pub described : List ℕ → Verdict
-described file = unless_refused (name_refusal file) Refused (Passed (outline_of file))
+unfoldable pub described : List ℕ → Result Outline ℕ
+described file = unless_refused (name_refusal file) Err (Ok (outline_of file))
 
 -- what 1 to 20 come to
-unfoldable pub judged : List ℕ → Verdict
-judged file = unless_refused (refusal file) Refused (Passed (outline_of file))
+unfoldable pub judged : List ℕ → Result Outline ℕ
+judged file = unless_refused (refusal file) Err (Ok (outline_of file))

@@ -2,93 +2,81 @@
 // and where they start, and what the index by name answers of three names.
 #![tactic(auto)]
 
-use bundle::exports::IndexAnswer;
-use cases::files::{line_end, read_file};
-use cases::output::{decimal, hex, size, text};
-use std::fs::Files;
+use bundle::exports::{export_index, export_name, name_part};
+use cases::files::read_file;
+use cases::input::read_start;
+use cases::output::Hex;
+use std::{fmt, io};
 
-// The line of an export: its index, and its name's place in the file, length and bytes.
-fn show_name(i: u32, start: usize, name: &[u8]) {
-    text(b"  ");
-    decimal(i);
-    text(b" ");
-    size(start);
-    text(b" ");
-    size(name.len());
-    text(b" ");
-    hex(name);
-    text(b"\n");
+// So many bytes of the input are read.
+const INPUT_BYTES: usize = 65_536;
+
+// Two bytes more than the largest bundle has are read of a file.
+const FILE_BYTES: usize = 65_538;
+
+// An export: its index, and its name with the name's place in the file.
+#[derive(Clone, Copy)]
+struct Export<'a> {
+    index: u32,
+    start: usize,
+    name: &'a [u8],
 }
 
-// The line of the export with an index, if there is one.
-fn show_export(file: &[u8], i: u32) -> bool {
-    let part = bundle::exports::name_part(file, i);
-    if part.size == 0 {
-        return false;
+impl fmt::Display for Export<'_> {
+    fn fmt<W: fmt::Write>(&self, f: &mut fmt::Formatter<W>) -> fmt::Result {
+        let Export { index, start, name } = *self;
+        write!(f, "{index} {start} {} {}", name.len(), Hex(name))
     }
-    let start = part.start;
-    show_name(i, start, bundle::exports::export_name(file, i));
-    true
+}
+
+// The export with an index, if there is one.
+fn export_at(file: &[u8], index: u32) -> Option<Export<'_>> {
+    let part = name_part(file, index);
+    if part.size == 0 {
+        return None;
+    }
+    Some(Export {
+        index,
+        start: part.start,
+        name: export_name(file, index),
+    })
 }
 
 // The exports from the first on; no index past them has a name.
-fn show_exports(file: &[u8]) {
-    let mut i: u32 = 0;
-    while i < 4294967295 {
-        if !show_export(file, i) {
-            show_export(file, 4294967295);
-            return;
-        }
-        i += 1;
+fn show_exports(rt: &impl Print, file: &[u8]) -> io::Result<()> {
+    let exports = (0..u32::MAX).map_while(|index| export_at(file, index));
+    for export in exports.chain(export_at(file, u32::MAX)) {
+        println!(rt; "  {export}")?;
     }
-}
-
-fn show_numbers(number: u32, index: usize) {
-    text(b"  index ");
-    decimal(number);
-    text(b" ");
-    size(index);
-    text(b"\n");
+    Ok(())
 }
 
 // The paper's numbers for the index by name.
-fn show_index(file: &[u8], name: &[u8]) {
-    match bundle::exports::export_index(file, name) {
-        IndexAnswer::Refused(number) => show_numbers(number, 0),
-        IndexAnswer::Index(index) => show_numbers(0, index),
+fn show_index(rt: &impl Print, file: &[u8], name: &[u8]) -> io::Result<()> {
+    let (number, index) = match export_index(file, name) {
+        Err(refusal) => (u32::from(refusal), 0),
+        Ok(index) => (0, index),
+    };
+    println!(rt; "  index {number} {index}")
+}
+
+fn show_bundle(rt: &impl Print, name: &[u8], file: &[u8]) -> io::Result<()> {
+    let number = bundle::check(file).err().map_or(0, u32::from);
+    rt.write_all(name)?;
+    println!(rt; " {number}")?;
+    show_exports(rt, file)?;
+    show_index(rt, file, b"")?;
+    show_index(rt, file, b"main")?;
+    show_index(rt, file, b"nobody")
+}
+
+fn main(rt: HostRuntime) -> io::Result<()> {
+    let names = read_start(rt.reader(), INPUT_BYTES, rt.alloc())?;
+    // each program has this loop and the sizes of its own: what it does with a file stands inside
+    for line in names.split_inclusive(|byte| *byte == b'\n') {
+        let name = line.strip_suffix(b"\n").unwrap_or(line);
+        let file = read_file(&rt, name, FILE_BYTES)?;
+        show_bundle(&rt, name, &file)?;
     }
-}
-
-fn show_bundle(name: &[u8], file: &[u8]) {
-    text(name);
-    text(b" ");
-    decimal(bundle::check(file));
-    text(b"\n");
-    show_exports(file);
-    show_index(file, b"");
-    show_index(file, b"main");
-    show_index(file, b"nobody");
-}
-
-// The bundle in the file of that name; a byte more than is read of the largest.
-fn show_file(rt: &impl Files, name: &[u8]) {
-    let mut bytes: [u8; 65538] = [0; 65538];
-    let n = read_file(rt, name, &mut bytes);
-    show_bundle(name, &bytes[..n]);
-}
-
-// The files whose names stand in s, one to a line.
-fn show_files(rt: &impl Files, s: &[u8]) {
-    let mut at = 0;
-    while at < s.len() {
-        let end = line_end(s, at);
-        show_file(rt, &s[at..end]);
-        at = end + 1;
-    }
-}
-
-fn main(rt: HostRuntime) {
-    let mut names = io::large_buffer();
-    let n = io::read_full(0, &mut names);
-    show_files(&rt, &names[..n]);
+    Ok(())
 }

@@ -9,8 +9,8 @@ use Rattle.sizes.specs.Sizes.{within}
 use Rattle.utf8.specs.Check.{utf8_char, in_range, octet_start, octet_step, at_end, check_from, check}
 use Rattle.sha256_block.specs.Fips180.{K, H0, tabulate, length_bytes, padding, padded, next_word, schedule, round, rounds, combined}
 use Rattle.sha256_block.specs.Fips180.{compress, bytes_of}
-use Rattle.manifest_shape.specs.Shape.{bytes_end, text_end, string_end, root_end, export_end, sized_end, field_end, item_end, items_end}
-use Rattle.manifest_shape.specs.Shape.{counted_end, closure_end, head_end, ending, manifest_of}
+use Rattle.manifest_shape.specs.Shape.{text_end, string_end, root_end, export_end, sized_end, field_end, item_end, items_end}
+use Rattle.manifest_shape.specs.Shape.{counted_end, closure_end, head_end, manifest_of}
 use Rattle.manifest.specs.Content.{root_past, export_past, text_at, hash_at, list_from, count_at, roots_at, exports_at, names}
 use Rattle.manifest.specs.Judged.{nine_strings, past, past_all, strings_agree, export_faulty, some_export}
 use Rattle.manifest.specs.Judged.{malformed, unsupported_at, unsupported, misnamed_at, misnamed, roots_of, exports_of}
@@ -35,8 +35,8 @@ use Rattle.bundle_example.proofs.Digests.{steps, next_from, hash_by, digest, ref
 Computed : List BundleCase → Type 0
 unfolding leaf_bundle steps next_from hash_by digest big_endian inside span_end span number_at same_bytes holds_at index_of any_of some_of
     within utf8_char in_range octet_start octet_step at_end check_from check K H0 tabulate length_bytes padding padded next_word schedule round
-    rounds combined compress bytes_of bytes_end text_end string_end root_end export_end sized_end field_end item_end items_end counted_end
-    closure_end head_end ending manifest_of root_past export_past text_at hash_at list_from count_at roots_at exports_at names nine_strings
+    rounds combined compress bytes_of text_end string_end root_end export_end sized_end field_end item_end items_end counted_end
+    closure_end head_end manifest_of root_past export_past text_at hash_at list_from count_at roots_at exports_at names nine_strings
     past past_all strings_agree export_faulty some_export malformed unsupported_at unsupported misnamed_at misnamed roots_of exports_of
     children_of payload_end record_end records_end records count nodes_of shaped hashes lacks record_faulty some_record link_of first_link
     second_link links placed_of circular settled ready earliest put placing placed section_count directory_offset too_long too_short

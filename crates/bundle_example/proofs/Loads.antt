@@ -1,4 +1,5 @@
 -- The load and the listing of the bundle, by computation.
+use Rattle.std.specs.Prelude.{Err}
 use Prim.Native.Nat.{ℕ}
 use mathlib.Core.Path.{◌≡◌, refl, ap, ◌∙◌}
 use mathlib.Core.List.{List, [], ◌∷◌, ◌++◌, map}
@@ -10,8 +11,8 @@ use Rattle.wire.specs.Wire.{big_endian, inside, span_end, span, number_at, holds
 use Rattle.lists.specs.Lists.{same_bytes, index_of}
 use Rattle.sizes.specs.Sizes.{within}
 use Rattle.utf8.specs.Check.{utf8_char, in_range, octet_start, octet_step, at_end, check_from, check}
-use Rattle.manifest_shape.specs.Shape.{bytes_end, text_end, string_end, root_end, export_end, sized_end, field_end, item_end, items_end}
-use Rattle.manifest_shape.specs.Shape.{counted_end, closure_end, head_end, ending, manifest_of}
+use Rattle.manifest_shape.specs.Shape.{text_end, string_end, root_end, export_end, sized_end, field_end, item_end, items_end}
+use Rattle.manifest_shape.specs.Shape.{counted_end, closure_end, head_end, manifest_of}
 use Rattle.manifest.specs.Content.{root_past, export_past, Export, text_at, hash_at, list_from, exports_at, names}
 use Rattle.manifest.specs.Judged.{exports_of}
 use Rattle.nodes.specs.Records.{NodeRecord, children_of, payload_end, record_end, records, count, nodes_of, hashes}
@@ -23,7 +24,6 @@ use Rattle.container.specs.Header.{section_count}
 use Rattle.container.specs.Directory.{entry_at, entries_from, entries, entry_of, section}
 use Rattle.references.specs.References.{export_hashes}
 use Rattle.bundle.specs.Checks.{refusal}
-use Rattle.loader.specs.declared.LoadAnswer.TheVariants.{Refused}
 use Rattle.unpacking.specs.Written.{record_slot, slot_named, record_node, written, slots_named}
 use Rattle.loader.specs.Load.{records_in, exports_in, unfit, crowded, Loaded, loaded, loaded_with, exports_written, accept, accept_from, load}
 use Rattle.loader.proofs.Refusals.{past_bundle}
@@ -54,15 +54,15 @@ leaf_records = refl
 
 leaf_exports_lem : exports_in leaf_bundle ≡ leaf_exports
 unfolding leaf_bundle big_endian inside span_end span number_at same_bytes holds_at within utf8_char in_range octet_start octet_step at_end check_from check
-    bytes_end text_end string_end root_end export_end sized_end field_end item_end items_end counted_end closure_end head_end ending manifest_of
+    text_end string_end root_end export_end sized_end field_end item_end items_end counted_end closure_end head_end manifest_of
     root_past export_past text_at hash_at list_from exports_at exports_of section_count entry_at entries_from entries entry_of section
 leaf_exports_lem = refl
 
 -- so the load is this
 leaf_load : List ℕ → ℤ → List ℕ → Loaded
 leaf_load w base out =
-    unless_refused (cond (unfit w base 1) 21 (cond (crowded out 1) 22 0)) (λ n. loaded w out (Refused n))
-    (from_base w base (loaded w out (Refused 21)) (λ before part. loaded_with before (accept leaf_nodes leaf_exports part out)))
+    unless_refused (cond (unfit w base 1) 21 (cond (crowded out 1) 22 0)) (λ n. loaded w out (Err n))
+    (from_base w base (loaded w out (Err 21)) (λ before part. loaded_with before (accept leaf_nodes leaf_exports part out)))
 
 leaf_load_lem : (w : List ℕ) (base : ℤ) (out : List ℕ) → load leaf_bundle w base out ≡ leaf_load w base out
 unfolding load accept_from leaf_load

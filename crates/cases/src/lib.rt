@@ -1,7 +1,6 @@
-// What the test programs share: numbers of the input, the files that it names, and what is written.
+// What the test programs share: the input and its numbers, the files that it names, and lines that are written.
 #![tactic(auto)]
 
-pub mod answers;
 pub mod files;
 pub mod input;
 pub mod output;

@@ -1,11 +1,9 @@
 -- What is refused of a bundle's container, 1 to 11, in the order in which it is asked; and where its two sections lie.
-use Rattle.std.specs.Prelude.{ℕ, List, [], ◌∷◌, ◌++◌}
+use Rattle.std.specs.Prelude.{ℕ, List, [], ◌∷◌, ◌++◌, Result, Ok, Err}
 use Rattle.refusals.specs.Refusals.{Row, ◌when◌, answer, unless_refused}
 use Rattle.wire.specs.declared.Part.{Part}
 use Rattle.container.specs.declared.directory.DirectoryEntry.{DirectoryEntry}
 use Rattle.container.specs.declared.Sections.{Sections}
-use Rattle.container.specs.declared.Located.{Located}
-use Rattle.container.specs.declared.Located.TheVariants.{Refused, At}
 use Rattle.container.specs.Header.{too_long, too_short, other_magic, other_major, no_directory}
 use Rattle.container.specs.Directory.{Critical, Coded, Outside, Altered, entries, some_entry, repeated, missing}
 use Rattle.container.specs.Directory.{entry_of, manifest_kind, nodes_kind}
@@ -52,5 +50,5 @@ sections_of file =
     record { manifest = part_of (entry_of manifest_kind (entries file)); nodes = part_of (entry_of nodes_kind (entries file)) }
 
 -- the refusal, or the sections
-unfoldable pub located : List ℕ → Located
-located file = unless_refused (answer (container_checks file)) Refused (At (sections_of file))
+unfoldable pub located : List ℕ → Result Sections ℕ
+located file = unless_refused (answer (container_checks file)) Err (Ok (sections_of file))

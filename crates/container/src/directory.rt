@@ -1,15 +1,17 @@
 // The directory of a bundle: 6 to 11, and the sections. One walk finds what all of them ask.
 ghost use Rattle.std.specs.Prelude.{◌≡◌, ◌+◌, ◌*◌, ◌^◌, ◌≤◌, ◌<◌, length};
 ghost use Rattle.refusals.specs.Refusals.{answer};
+ghost use Rattle.refusals.specs.Numbers.{answer_of};
 ghost use Rattle.container.specs.Header.{header_bytes, entry_bytes, section_count};
 ghost use Rattle.container.specs.Directory.{entry_at, entries, known, critical, coded, outside, altered};
-ghost use Rattle.container.specs.Survey.{surveyed, either, type_noted, noted, repeated_in, missing_in, altered_in};
+ghost use Rattle.container.specs.Survey.{surveyed, type_noted, noted, repeated_in, missing_in, altered_in};
 ghost use Rattle.container.specs.Checks.{directory_checks, part_of};
 
 use crate::header::{ENTRY, HEADER, section_count};
-use wire::Part;
+use refusals::Refusal;
+use wire::{Part, number_at};
 
-// The types of the sections that a bundle has to have.
+// The types of the sections that a bundle has to have: numbers, since a file may have types that nobody here knows.
 const MANIFEST: u64 = 1;
 
 const NODES: u64 = 2;
@@ -20,7 +22,7 @@ const SHA256: u64 = 1;
 const DIGEST: usize = 32;
 
 // What a directory entry says; the digest by its place.
-#[derive(Clone, Copy)]
+#[derive(Clone, Copy, Debug, PartialEq, Eq)]
 pub struct DirectoryEntry {
     pub kind: u64,
     pub flags: u64,
@@ -31,15 +33,16 @@ pub struct DirectoryEntry {
     pub digest: usize,
 }
 
-// What is found of one type: how many entries have it, and the first of them.
-#[derive(Clone, Copy)]
+// What is found of one type: how many entries have it, and the first of them. Where there is none that is one of no bytes, as the
+// definition `entry_of` says, which the promises speak of; an Option would leave a case that 10 has refused.
+#[derive(Clone, Copy, Debug, PartialEq, Eq)]
 pub struct TypeFound {
     pub times: u64,
     pub first: DirectoryEntry,
 }
 
 // What one walk over the directory finds.
-#[derive(Clone, Copy)]
+#[derive(Clone, Copy, Debug, PartialEq, Eq)]
 pub struct Survey {
     // Some entry is of unknown type and critical; is compressed, or with another digest algorithm; passes the end of the file.
     pub critical: bool,
@@ -72,43 +75,37 @@ fn entry_at(file: &[u8], at: usize) -> DirectoryEntry
     let end = at + ENTRY;
     let e = &file[at..end];
     DirectoryEntry {
-        kind: wire::u32_at(e, 0).or_zero(),
-        flags: wire::u16_at(e, 6).or_zero(),
-        compression: wire::u16_at(e, 8).or_zero(),
-        algorithm: wire::u16_at(e, 10).or_zero(),
-        offset: wire::u64_at(e, 12).or_zero(),
-        size: wire::u64_at(e, 20).or_zero(),
+        kind: number_at::<4>(e, 0).unwrap_or(0),
+        flags: number_at::<2>(e, 6).unwrap_or(0),
+        compression: number_at::<2>(e, 8).unwrap_or(0),
+        algorithm: number_at::<2>(e, 10).unwrap_or(0),
+        offset: number_at::<8>(e, 12).unwrap_or(0),
+        size: number_at::<8>(e, 20).unwrap_or(0),
         digest: at + 28,
     }
 }
 
+#[tactic(auto, unfolding(crate::specs::Directory::known))]
 fn known(kind: u64) -> bool
     ensures { result ≡ known kind }
 {
-    if kind == MANIFEST {
-        return true;
-    }
-    kind == NODES
+    kind == MANIFEST || kind == NODES
 }
 
 // 6, of one entry.
+#[tactic(auto, unfolding(crate::specs::Directory::critical))]
 fn critical(e: DirectoryEntry) -> bool
     ensures { result ≡ critical e }
 {
-    if known(e.kind) {
-        return false;
-    }
-    e.flags % 2 == 1
+    !known(e.kind) && e.flags % 2 == 1
 }
 
 // 7, of one entry.
+#[tactic(auto, unfolding(crate::specs::Directory::coded, lists::specs::Lists::any_of))]
 fn coded(e: DirectoryEntry) -> bool
     ensures { result ≡ coded e }
 {
-    if e.compression != 0 {
-        return true;
-    }
-    e.algorithm != SHA256
+    e.compression != 0 || e.algorithm != SHA256
 }
 
 // 8, of one entry. Offset and length are not added: the test is by subtraction.
@@ -122,23 +119,15 @@ fn outside(file: &[u8], e: DirectoryEntry) -> bool
 fn altered(file: &[u8], e: DirectoryEntry) -> bool
     ensures { result ≡ altered file.now e }
 {
-    if known(e.kind) {
-        let digest = sha256::digest(wire::span(file, e.offset as usize, e.size as usize));
-        return !lists::same_bytes(&digest[0..DIGEST], wire::span(file, e.digest, DIGEST));
+    if !known(e.kind) {
+        return false;
     }
-    false
-}
-
-fn either(a: bool, b: bool) -> bool
-    ensures { result ≡ either a b }
-{
-    if a {
-        return true;
-    }
-    b
+    let digest = sha256::digest(part_of(e).of(file));
+    !lists::same_bytes(&digest, wire::span(file, e.digest, DIGEST))
 }
 
 // What is found of a type with one more entry, before those that were looked at.
+#[tactic(auto, unfolding(crate::specs::Survey::type_noted))]
 fn type_noted(kind: u64, t: TypeFound, e: DirectoryEntry) -> TypeFound
     requires { t.times + 1 < 2 ^ 64 }
     ensures { result ≡ type_noted kind t e }
@@ -153,14 +142,15 @@ fn type_noted(kind: u64, t: TypeFound, e: DirectoryEntry) -> TypeFound
 }
 
 // A turn of the walk: what is found with one more entry, before those that were looked at.
+#[tactic(auto, unfolding(crate::specs::Survey::noted))]
 fn noted(file: &[u8], s: Survey, e: DirectoryEntry) -> Survey
     requires { (s.manifest.times + 1 < 2 ^ 64) × (s.nodes.times + 1 < 2 ^ 64) }
     ensures { result ≡ noted file.now s e }
 {
     Survey {
-        critical: either(critical(e), s.critical),
-        coded: either(coded(e), s.coded),
-        outside: either(outside(file, e), s.outside),
+        critical: critical(e) || s.critical,
+        coded: coded(e) || s.coded,
+        outside: outside(file, e) || s.outside,
         manifest: type_noted(MANIFEST, s.manifest, e),
         nodes: type_noted(NODES, s.nodes, e),
     }
@@ -182,62 +172,60 @@ pub(crate) fn surveyed(file: &[u8]) -> Survey
         manifest: none,
         nodes: none,
     };
-    let mut left = section_count(file);
-    while 0 < left {
-        left -= 1;
-        s = noted(file, s, entry_at(file, HEADER + ENTRY * left as usize));
+    for i in (0..section_count(file)).rev() {
+        s = noted(file, s, entry_at(file, HEADER + ENTRY * i as usize));
     }
     s
 }
 
 // 9: type 1 or 2 occurs more than once.
+#[tactic(auto, unfolding(crate::specs::Survey::repeated_in))]
 fn repeated_in(s: Survey) -> bool
     ensures { result ≡ repeated_in s }
 {
-    either(1 < s.manifest.times, 1 < s.nodes.times)
+    1 < s.manifest.times || 1 < s.nodes.times
 }
 
 // 10: type 1 or 2 is missing.
+#[tactic(auto, unfolding(crate::specs::Survey::missing_in))]
 fn missing_in(s: Survey) -> bool
     ensures { result ≡ missing_in s }
 {
-    either(s.manifest.times == 0, s.nodes.times == 0)
+    s.manifest.times == 0 || s.nodes.times == 0
 }
 
 // 11: the digest of the type 1 or type 2 section differs.
+#[tactic(auto, unfolding(crate::specs::Survey::altered_in))]
 fn altered_in(file: &[u8], s: Survey) -> bool
     ensures { result ≡ altered_in file.now s }
 {
-    if altered(file, s.manifest.first) {
-        return true;
-    }
-    altered(file, s.nodes.first)
+    altered(file, s.manifest.first) || altered(file, s.nodes.first)
 }
 
 // 6 to 11, by what the walk has found.
-pub(crate) fn check_directory(file: &[u8], s: Survey) -> u32
+pub(crate) fn check_directory(file: &[u8], s: Survey) -> Result<(), Refusal>
     requires { s ≡ surveyed file.now (entries file.now) }
-    ensures { result ≡ answer (directory_checks file.now) }
+    ensures { answer_of result ≡ answer (directory_checks file.now) }
 {
     if s.critical {
-        return 6;
+        return Err(Refusal::CriticalSection);
     }
     if s.coded {
-        return 7;
+        return Err(Refusal::CodedSection);
     }
     if s.outside {
-        return 8;
+        return Err(Refusal::SectionOutside);
     }
     if repeated_in(s) {
-        return 9;
+        return Err(Refusal::SectionRepeated);
     }
     if missing_in(s) {
-        return 10;
+        return Err(Refusal::SectionMissing);
     }
     if altered_in(file, s) {
-        return 11;
+        return Err(Refusal::DigestDiffers);
     }
-    0
+    Ok(())
 }
 
 // Where an entry's section lies.

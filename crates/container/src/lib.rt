@@ -2,43 +2,32 @@
 #![tactic(auto)]
 
 ghost use Rattle.std.specs.Prelude.{◌≡◌};
+ghost use Rattle.refusals.specs.Numbers.{by_number};
 ghost use Rattle.container.specs.Checks.{located};
 
 use crate::directory::{check_directory, part_of, surveyed};
 use crate::header::check_header;
+use refusals::Refusal;
 use wire::Part;
 
 mod directory;
 mod header;
 
 // Where the manifest and the nodes lie in the file.
-#[derive(Clone, Copy)]
+#[derive(Clone, Copy, Debug, PartialEq, Eq)]
 pub struct Sections {
     pub manifest: Part,
     pub nodes: Part,
 }
 
-// What the checks of the container come to: the number of the first that holds, or where the sections lie.
-#[derive(Clone, Copy)]
-pub enum Located {
-    Refused(u32),
-    At(Sections),
-}
-
 // 1 to 11, or the sections.
-pub fn locate(file: &[u8]) -> Located
-    ensures { result ≡ located file.now }
+pub fn locate(file: &[u8]) -> Result<Sections, Refusal>
+    ensures { by_number result ≡ located file.now }
 {
-    let header = check_header(file);
-    if header != 0 {
-        return Located::Refused(header);
-    }
+    check_header(file)?;
     let s = surveyed(file);
-    let directory = check_directory(file, s);
-    if directory != 0 {
-        return Located::Refused(directory);
-    }
-    Located::At(Sections {
+    check_directory(file, s)?;
+    Ok(Sections {
         manifest: part_of(s.manifest.first),
         nodes: part_of(s.nodes.first),
     })

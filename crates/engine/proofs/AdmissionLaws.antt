@@ -1,19 +1,18 @@
 -- What the rows of a run tell: each by its number, and that the loop starts with what is ready where none holds.
-use Prim.Native.Nat.{ℕ, ◌+◌, ◌-◌, ◌≤◌, ◌<◌}
-use mathlib.Core.Path.{◌≡◌, refl, sym, ap, ◌∙◌}
+use Prim.Native.Nat.{ℕ, ◌+◌, ◌≤◌, ◌<◌}
+use mathlib.Core.Path.{◌≡◌, refl}
 use mathlib.Core.Bool.{Bool, true, false, false≢true, not}
 use mathlib.Core.List.{List, [], ◌∷◌}
 use mathlib.Core.Logic.{◌↔◌, ◌⊎◌, inl, inr}
 use native.Mathlib.Omega.{arith}
 use lib.Dec.{eqb, ltb}
 use lib.IntN.{ℤ, pos, nat_abs}
-use native.Mathlib.Decide.{dec_lt}
-use borrow.Author.Tests.{eq-eqb, ne_eqb, eqb-true, eqb-false, lt-ltb, le-ltb, ltb-true, ltb-false, not-true, not-false}
+use borrow.Author.Tests.{ne_eqb, eqb-true, eqb-false, ltb-true, ltb-false, not-true, not-false}
 use Rattle.lists.specs.Lists.{any_of}
-use Rattle.lists.proofs.Tests.{below_exactly, not_exactly, cond_test}
+use Rattle.lists.proofs.Tests.{below_exactly, not_exactly}
 use Rattle.lists.proofs.Some.{any_none, any_more}
-use Rattle.refusals.specs.Refusals.{answer, Clear, none, more, Numbered, row_holds}
-use Rattle.refusals.proofs.Rows.{answer_clear, clear_row, clear_before, clear_after, clear_joined, refused_first, passed_first}
+use Rattle.refusals.specs.Refusals.{Clear, none, more, Numbered, row_holds}
+use Rattle.refusals.proofs.Rows.{clear_row, clear_before, clear_after, clear_joined}
 use Rattle.table.specs.Slots.{room, is_used, named_slot}
 use Rattle.table.specs.Sound.{SlotsPass, sound}
 use Rattle.frames.specs.Frames.{Record, job_words_at, frame_of, frame_at, cleared, FrameNames}
@@ -67,35 +66,6 @@ module _ (f x : ℤ) (used : ℕ) where
       = any_more _ (not_exactly (is_used f used) (λ e. e, λ e. e)) (any_more _ (not_exactly (is_used x used) (λ e. e, λ e. e)) any_none)
       in
       (λ e. let (a, (b, _)) = tests.0 e in (a, b), λ h. tests.1 (h.0, (h.1, tt)))
-
--- ---- the ways through the tests
-
-module _ (w : List ℕ) (used : ℕ) where
-  pub room_none : used ≡ 0 → true ≡ out_of_room w used
-  unfolding out_of_room any_of
-  room_none h = rw (eq-eqb used 0 h)
-
-  pub room_test : (used ≡ 0 → ⊥) → (most : ℕ) → most ≡ room w → ltb most used ≡ out_of_room w used
-  unfolding out_of_room any_of
-  room_test h most m = rw (ne_eqb used 0 h, m, cond_test (ltb (room w) used))
-
--- (f and x are read back from their bits)
-module _ (f x : ℤ) (used : ℕ) (f' : ℤ) (ef : f' ≡ f) (known : Bool) (e : known ≡ is_used f' used) where
-  pub dangling_f : not known ≡ true → true ≡ dangling f x used
-  unfolding dangling any_of
-  dangling_f h = rw (← ef, ← e, h)
-
-  pub dangling_x : not known ≡ false → (x' : ℤ) → x' ≡ x → (also : Bool) → also ≡ is_used x' used → not also ≡ dangling f x used
-  unfolding dangling any_of
-  dangling_x h x' ex also g = rw (← ef, ← e, h, ← ex, ← g, cond_test (not also))
-
-pub overflow_test : (steps fuel : ℕ) → steps ≤ max_steps → ltb (max_steps - steps) fuel ≡ steps_overflow steps fuel
-unfolding steps_overflow
-overflow_test steps fuel l =
-    elim (dec_lt max_steps (steps + fuel)) [
-      | yes h ↦ rw (lt-ltb (max_steps - steps) fuel (omega arith), lt-ltb max_steps (steps + fuel) h)
-      | no h ↦ rw (le-ltb (max_steps - steps) fuel (omega (arith, h)), le-ltb max_steps (steps + fuel) (omega (arith, h)))
-    ]
 
 -- ---- the rows of the slots
 
@@ -199,26 +169,3 @@ module _ (w : List ℕ) (f x : ℤ) (used fuel : ℕ) (j : List ℕ) where
     pub run_begins : Clear (run_rows from w f x used fuel j) → Clear (from_rows from j used fuel)
     unfolding run_rows
     run_begins clear = clear_after (slot_rows w f x used) (from_rows from j used fuel) clear
-
--- the ways to their answer: n is that of the slots' rows (f and x are read back from their bits)
-module _ (from : From) (w : List ℕ) (f x : ℤ) (used fuel : ℕ) (j : List ℕ) (f' x' : ℤ) (ef : f' ≡ f) (ex : x' ≡ x) (n : ℕ)
-    (e : n ≡ answer (slot_rows w f' x' used)) where
-  first_told : n ≡ answer (slot_rows w f x used)
-  first_told = rw (← ef, ← ex) e
-
-  pub run_refused : (n ≡ 0 → ⊥) → n ≡ answer (run_rows from w f x used fuel j)
-  unfolding run_rows
-  run_refused z = refused_first (slot_rows w f x used) (from_rows from j used fuel) first_told z
-
-  module _ (z : n ≡ 0) where
-    then_asked : answer (run_rows from w f x used fuel j) ≡ answer (from_rows from j used fuel)
-    unfolding run_rows
-    then_asked = passed_first (from_rows from j used fuel) (answer_clear (slot_rows w f x used) (slot_numbered w f x used) first_told z)
-
-    pub run_scratch : from ≡ Scratch → 0 ≡ answer (run_rows from w f x used fuel j)
-    unfolding answer
-    run_scratch g = sym (then_asked ∙ ap (λ (s : From). answer (from_rows s j used fuel)) g)
-
-    pub run_stop : (waiting steps : ℕ) → from ≡ Stop waiting steps → (r : ℕ) → r ≡ answer (stop_rows j used waiting steps fuel)
-        → r ≡ answer (run_rows from w f x used fuel j)
-    run_stop waiting steps g r h = h ∙ sym (then_asked ∙ ap (λ (s : From). answer (from_rows s j used fuel)) g)

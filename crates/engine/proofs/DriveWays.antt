@@ -1,28 +1,34 @@
 -- One turn of the run's loop, by what its step came to, and what the loop keeps.
 use Prim.Native.Nat.{ℕ, zero, suc, ◌+◌, ◌-◌, ◌<◌}
-use mathlib.Core.Path.{◌≡◌, ap, ◌∙◌}
+use mathlib.Core.Path.{◌≡◌, ap, ◌∙◌, subst}
 use mathlib.Core.List.{List}
 use native.Mathlib.Omega.{arith}
 use native.Mathlib.Numerals.{add-one, sub-one}
 use lib.ListN.{length}
+use Rattle.std.specs.Prelude.{Ok}
 use Rattle.fuel.specs.declared.Fuel.{Fuel}
 use Rattle.stepping.specs.declared.State.{State}
 use Rattle.stepping.specs.declared.Turn.{Turn}
-use Rattle.stepping.specs.declared.Status.{Status}
-use Rattle.stepping.specs.declared.Status.TheVariants.{Going, Done, OutOfSlots, OutOfPlaces}
-use Rattle.engine.specs.declared.RunAnswer.{RunAnswer}
+use Rattle.stepping.specs.declared.Turn.TheVariants.{Going, Done, Stopped}
+use Rattle.stepping.specs.declared.stops.Stop.{Stop}
+use Rattle.stepping.specs.declared.stops.Stop.TheVariants as stop
+use Rattle.engine.specs.declared.Ending.{Ending}
 use Rattle.stepping.specs.Step.{at, step}
+use Rattle.stepping.proofs.Keeps.{LeftBy, slots_below, step_left}
+use Rattle.table.proofs.SlotLaws.{room_most}
+use Rattle.table.specs.declared.slots.Slot.{Slot}
+use Rattle.table.specs.Limits.{max_slots}
 use Rattle.stepping.specs.Ready.{Runnable, Waits}
 use Rattle.engine.specs.Run.{ran, finished, stopped, resume_as, resume, drive}
 
 -- the fuel is spent
-pub drive_none : (w j : List ℕ) (s : State) (n k : ℕ) (r : RunAnswer) → n ≡ 0 → r ≡ stopped 31 s k →
-    ran w j r ≡ drive n k w j s
+pub drive_none : (w j : List ℕ) (s : State) (n k : ℕ) (r : Ending) → n ≡ 0 → r ≡ stopped stop.OutOfFuel s k →
+    ran w j (Ok r) ≡ drive n k w j s
 unfolding drive
 drive_none w j s n k r h e = rw (h, e)
 
 drive_step : (w j : List ℕ) (s : State) (w' j' : List ℕ) (t : Turn) (n k : ℕ) → 0 < n → at w' j' t ≡ step w j s →
-    resume_as (drive (n - 1)) k s w' j' t.state t.status ≡ drive n k w j s
+    resume_as (drive (n - 1)) k s w' j' t ≡ drive n k w j s
 unfolding drive
 drive_step w j s w' j' t zero k h e = absurd (omega arith)
 drive_step w j s w' j' t (suc n) k h e = (rw sub-one) ∙ ap (resume (drive n) k s) e
@@ -30,23 +36,27 @@ drive_step w j s w' j' t (suc n) k h e = (rw sub-one) ∙ ap (resume (drive n) k
 -- a step was taken
 module _ (w j : List ℕ) (s : State) (w' j' : List ℕ) (t : Turn) (n k : ℕ) (some : 0 < n)
     (e : at w' j' t ≡ step w j s) where
-  turned : (u : Status) → t.status ≡ u → resume_as (drive (n - 1)) k s w' j' t.state u ≡ drive n k w j s
+  turned : (u : Turn) → t ≡ u → resume_as (drive (n - 1)) k s w' j' u ≡ drive n k w j s
   turned u h = rw (← h) (drive_step w j s w' j' t n k some e)
 
   -- and the run goes on,
-  pub drive_going : t.status ≡ Going → drive (n - 1) (k + 1) w' j' t.state ≡ drive n k w j s
-  drive_going h = (rw add-one) ∙ turned Going h
+  pub drive_going : {next : State} → t ≡ Going next → drive (n - 1) (k + 1) w' j' next ≡ drive n k w j s
+  drive_going h = (rw add-one) ∙ turned (Going _) h
 
-  module _ (r : RunAnswer) where
+  module _ (r : Ending) where
     -- is done, or stops
-    pub drive_done : {m : ℕ} → t.status ≡ Done → m ≡ k + 1 → r ≡ finished t.state m → ran w' j' r ≡ drive n k w j s
-    drive_done h em er = (rw (er, em, add-one)) ∙ turned Done h
+    pub drive_done : {a : Slot} {m used : ℕ} → t ≡ Done a used → m ≡ k + 1 → r ≡ finished a m used → ran w' j' (Ok r) ≡ drive n k w j s
+    drive_done h em er = (rw (er, em, add-one)) ∙ turned (Done _ _) h
 
-    pub drive_no_slot : t.status ≡ OutOfSlots → r ≡ stopped 32 s k → ran w' j' r ≡ drive n k w j s
-    drive_no_slot h er = (rw er) ∙ turned OutOfSlots h
+    pub drive_stopped : {why : Stop} → t ≡ Stopped why → r ≡ stopped why s k → ran w' j' (Ok r) ≡ drive n k w j s
+    drive_stopped h er = (rw er) ∙ turned (Stopped _) h
 
-    pub drive_no_place : t.status ≡ OutOfPlaces → r ≡ stopped 33 s k → ran w' j' r ≡ drive n k w j s
-    drive_no_place h er = (rw er) ∙ turned OutOfPlaces h
+-- the result of a step that may be taken is a slot
+pub result_below : (w j : List ℕ) (s : State) (w' j' : List ℕ) (t : Turn) (a : Slot) (used : ℕ) → Runnable w s → Waits j s.used s.waiting →
+    at w' j' t ≡ step w j s → t ≡ Done a used → a.0 < max_slots
+result_below w j s w' j' t a used ready waits e h =
+    let (slots, l) = subst (LeftBy w' j') h (step_left w j s ready waits w' j' t e) in
+    omega (arith, l, slots.fits, room_most w')
 
 -- what the loop keeps: the rest of the run from here is the whole run, and the next step may be taken
 pub record Driven (w₀ j₀ : List ℕ) (s₀ : State) (fuel : Fuel) (w j : List ℕ) (s : State) (rest : Fuel) : Type 0 where
@@ -65,3 +75,6 @@ module _ {w₀ j₀ : List ℕ} {s₀ : State} {fuel : Fuel} {w j : List ℕ} {s
 
   pub none_left : rest.spent ≡ fuel.left + fuel.spent → rest.left ≡ 0
   none_left h = omega (arith, driven.sum)
+
+-- what the loop's stops and the slots that it tells come to
+pub ruleset turns = (slots_below, result_below, some_left, none_left, drive_none, drive_stopped)

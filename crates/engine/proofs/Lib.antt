@@ -2,6 +2,5 @@ pub mod Cases
 pub mod CarryCases
 pub mod DriveWays
 pub mod AdmissionLaws
-pub mod SlotRows
 pub mod CallWays
 pub mod Named

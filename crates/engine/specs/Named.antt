@@ -1,9 +1,9 @@
 -- The slots that a run or a carry-on answers.
-use Rattle.std.specs.Prelude.{ℕ, ◌≤◌, ◌<◌, ◌≡◌, List, ℤ, pos}
+use Rattle.std.specs.Prelude.{ℕ, ◌≤◌, ◌<◌, ◌≡◌, List, ℤ, pos, Ok, Err}
 use Rattle.table.specs.Limits.{max_slots}
-use Rattle.engine.specs.declared.RunAnswer.{RunAnswer}
-use Rattle.engine.specs.declared.RunAnswer.TheVariants.{Refused, Done, Stopped}
+use Rattle.engine.specs.declared.Ending.TheVariants.{Done, Stopped}
 use Rattle.engine.specs.declared.From.{From}
+use Rattle.engine.specs.Answer.{RunAnswer}
 use Rattle.engine.specs.Run.{ran, run_from}
 
 -- a number names one of the used slots
@@ -11,9 +11,9 @@ abbrev pub UsedSlot : ℕ → ℤ → Type 0
 UsedSlot used z = (i : ℕ) × (z ≡ pos i) × (i < used)
 
 abbrev pub RunSlotsUsed : RunAnswer → Type 0
-RunSlotsUsed (Refused n) = Unit {0}
-RunSlotsUsed (Done slot steps used) = (used ≤ max_slots) × UsedSlot used slot
-RunSlotsUsed (Stopped n f x steps used waiting) = (used ≤ max_slots) × UsedSlot used f × UsedSlot used x
+RunSlotsUsed (Err n) = Unit {0}
+RunSlotsUsed (Ok (Done slot steps used)) = (used ≤ max_slots) × UsedSlot used slot
+RunSlotsUsed (Ok (Stopped why f x steps used waiting)) = (used ≤ max_slots) × UsedSlot used f × UsedSlot used x
 
 -- Every slot that a run or a carry-on answers is a used one, so that it may be handed back as f or x.
 abbrev pub SlotsNamed : Type 0

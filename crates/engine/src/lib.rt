@@ -2,7 +2,8 @@
 // stopped.
 #![tactic(auto)]
 
-ghost use Rattle.std.specs.Prelude.{◌≡◌, ◌+◌, ◌<◌, ◌^◌};
+ghost use Rattle.std.specs.Prelude.{◌≡◌, ◌+◌, ◌<◌, ◌^◌, Ok};
+ghost use Rattle.refusals.specs.Numbers.{by_number};
 ghost use Rattle.table.specs.Limits.{max_slots};
 ghost use Rattle.stepping.specs.Ready.{Runnable, Waits};
 ghost use Rattle.engine.specs.declared.From.TheVariants.{Scratch, Stop};
@@ -11,25 +12,24 @@ ghost use Rattle.engine.specs.Run.{ran, finished, stopped, drive, steps_of, wait
 use crate::admission::refusal;
 use frames::clear;
 use fuel::Fuel;
-use stepping::{State, Status, step};
-use table::base::Base;
+use refusals::Refusal;
+use stepping::{State, Turn, step, stops};
+use table::base::base_of;
 use table::slots::Slot;
 
 pub mod admission;
 
-// What a run answers; specs/Answer.antt gives the paper's numbers for each case.
-#[derive(Clone, Copy)]
-pub enum RunAnswer {
-    // By 21, 23 or 24; a carry-on by 40 too.
-    Refused(u32),
+// How a run that was let start ends; specs/Answer.antt gives the paper's numbers for each case.
+#[derive(Clone, Copy, Debug, PartialEq, Eq)]
+pub enum Ending {
     Done {
         slot: i32,
         steps: u32,
         used: u32,
     },
-    // By 31, 32 or 33, with the f and x still to be applied and how many frames wait.
+    // With the f and x still to be applied and how many frames wait.
     Stopped {
-        number: u32,
+        why: stops::Stop,
         f: i32,
         x: i32,
         steps: u32,
@@ -38,7 +38,7 @@ pub enum RunAnswer {
     },
 }
 
-// How a run begins.
+// How a run begins. Of an Option, `None` would not say that it is from scratch.
 #[derive(Clone, Copy)]
 pub enum From {
     Scratch,
@@ -58,30 +58,38 @@ impl From {
     }
 }
 
-// The answer of a run that is done; f of its last state is the result.
-fn finished(s: State, steps: u32) -> RunAnswer
-    requires { s.f.0 < max_slots }
-    ensures { result ≡ finished s steps }
+// What is asked of a run on our part of the table: how it begins, f to be applied to x, how many slots are used, and an allowance
+// of steps.
+#[derive(Clone, Copy)]
+pub(crate) struct Request {
+    from: From,
+    f: i32,
+    x: i32,
+    used: u32,
+    fuel: u32,
+}
+
+// The answer of a run that is done with a slot.
+fn finished(slot: Slot, steps: u32, used: u32) -> Ending
+    requires { slot.0 < max_slots }
+    ensures { result ≡ finished slot steps used }
 {
-    let f = s.f;
-    RunAnswer::Done {
-        slot: f.number(),
+    Ending::Done {
+        slot: slot.number(),
         steps,
-        used: s.used,
+        used,
     }
 }
 
 // The answer of a run that stops before it is done.
-fn stopped(number: u32, s: State, steps: u32) -> RunAnswer
+fn stopped(why: stops::Stop, s: State, steps: u32) -> Ending
     requires { (s.f.0 < max_slots) × (s.x.0 < max_slots) }
-    ensures { result ≡ stopped number s steps }
+    ensures { result ≡ stopped why s steps }
 {
-    let f = s.f;
-    let x = s.x;
-    RunAnswer::Stopped {
-        number,
-        f: f.number(),
-        x: x.number(),
+    Ending::Stopped {
+        why,
+        f: s.f.number(),
+        x: s.x.number(),
         steps,
         used: s.used,
         waiting: s.waiting,
@@ -89,38 +97,28 @@ fn stopped(number: u32, s: State, steps: u32) -> RunAnswer
 }
 
 // Steps from a state on until the run is done or stopped; the fuel has the steps so far.
-fn drive(words: &mut [u32], jobs: &mut [u32], start: State, fuel: Fuel) -> RunAnswer
+#[tactic(auto, using(crate::proofs::DriveWays::turns))]
+fn drive(words: &mut [u32], jobs: &mut [u32], start: State, fuel: Fuel) -> Ending
     requires { Runnable words.old start × Waits jobs.old start.used start.waiting
         × (fuel.left + fuel.spent < 2 ^ 32) }
-    ensures { ran words.new jobs.new result
+    ensures { ran words.new jobs.new (Ok result)
         ≡ drive fuel.left fuel.spent words.old jobs.old start }
 {
-    // what is spent is counted up to the end alone, so that the loop has one counter
+    // a `while`, since a range up to the end would count beside what is spent, and a step is paid by the fuel alone
     let end = fuel.left + fuel.spent;
     let mut s = start;
     let mut rest = fuel;
     while rest.spent != end {
-        let turn = step(words, jobs, s);
-        let status = turn.status;
-        let next = turn.state;
-        match status {
-            Status::Going => {
+        match step(words, jobs, s) {
+            Turn::Going(next) => {
                 s = next;
                 rest = rest.spend();
             }
-            Status::Done => {
-                let last = rest.spend();
-                return finished(next, last.spent);
-            }
-            Status::OutOfSlots => {
-                return stopped(32, s, rest.spent);
-            }
-            Status::OutOfPlaces => {
-                return stopped(33, s, rest.spent);
-            }
+            Turn::Done { slot, used } => return finished(slot, rest.spend().spent, used),
+            Turn::Stopped(why) => return stopped(why, s, rest.spent),
         }
     }
-    stopped(31, s, rest.spent)
+    stopped(stops::Stop::OutOfFuel, s, rest.spent)
 }
 
 // How a run begins: one from scratch has its frame table zeroed. Answers how many frames wait.
@@ -137,33 +135,25 @@ fn begin(from: From, jobs: &mut [u32]) -> u32
 }
 
 // The run on the part of the table that is ours.
-fn run_tail(
-    from: From,
-    words: &mut [u32],
-    f: i32,
-    x: i32,
-    used: u32,
-    fuel: u32,
-    jobs: &mut [u32],
-) -> RunAnswer
-    ensures { ran words.new jobs.new result
-        ≡ run_tail from words.old f x used fuel jobs.old }
+#[tactic(auto, unfolding(crate::specs::Run::run_tail))]
+fn run_tail(words: &mut [u32], jobs: &mut [u32], asked: Request) -> Result<Ending, Refusal>
+    ensures { ran words.new jobs.new (by_number result)
+        ≡ run_tail asked.from words.old asked.f asked.x asked.used asked.fuel jobs.old }
 {
-    let number = refusal(from, words, f, x, used, fuel, jobs);
-    if number != 0 {
-        return RunAnswer::Refused(number);
-    }
-    let waiting = begin(from, jobs);
+    refusal(words, jobs, asked)?;
     let start = State {
-        f: Slot::named(f),
-        x: Slot::named(x),
-        used,
-        waiting,
+        f: Slot::named(asked.f),
+        x: Slot::named(asked.x),
+        used: asked.used,
+        waiting: begin(asked.from, jobs),
     };
-    drive(words, jobs, start, Fuel::new(fuel, from.steps()))
+    let fuel = Fuel::new(asked.fuel, asked.from.steps());
+    Ok(drive(words, jobs, start, fuel))
 }
 
 // Applies slot f to slot x of the table that starts at word base, of which `used` slots are used: from scratch, or from a stop.
+// Refused by 21, 23 or 24, and from a stop by 40, too. What is asked stays single numbers, as the calls for C have them.
+#[tactic(auto, unfolding(crate::specs::Run::run_from, table::specs::Base::from_base))]
 pub fn run_from(
     from: From,
     words: &mut [u32],
@@ -173,13 +163,20 @@ pub fn run_from(
     used: u32,
     fuel: u32,
     jobs: &mut [u32],
-) -> RunAnswer
-    ensures { ran words.new jobs.new result
+) -> Result<Ending, Refusal>
+    ensures { ran words.new jobs.new (by_number result)
         ≡ run_from from words.old base f x used fuel jobs.old }
 {
-    match Base::of(base, words.len()) {
-        Base::Outside => RunAnswer::Refused(21),
-        Base::At(at) => run_tail(from, &mut words[at..], f, x, used, fuel, jobs),
+    let asked = Request {
+        from,
+        f,
+        x,
+        used,
+        fuel,
+    };
+    match base_of(base, words.len()) {
+        None => Err(Refusal::NoRoom),
+        Some(at) => run_tail(&mut words[at..], jobs, asked),
     }
 }
 
@@ -192,8 +189,8 @@ pub fn run(
     used: u32,
     fuel: u32,
     jobs: &mut [u32],
-) -> RunAnswer
-    ensures { ran words.new jobs.new result
+) -> Result<Ending, Refusal>
+    ensures { ran words.new jobs.new (by_number result)
         ≡ run_from Scratch words.old base f x used fuel jobs.old }
 {
     run_from(From::Scratch, words, base, f, x, used, fuel, jobs)
@@ -211,8 +208,8 @@ pub fn carry_on(
     steps: u32,
     fuel: u32,
     jobs: &mut [u32],
-) -> RunAnswer
-    ensures { ran words.new jobs.new result
+) -> Result<Ending, Refusal>
+    ensures { ran words.new jobs.new (by_number result)
         ≡ run_from (Stop waiting steps) words.old base f x used fuel jobs.old }
 {
     run_from(

@@ -1,7 +1,7 @@
 -- Waiting frames are sound just when their test says so; and sound ones stand for one list of frames.
 use Prim.Native.Nat.{ℕ, zero, suc, ◌+◌, ◌-◌, ◌*◌, ◌≤◌, ◌<◌}
 use mathlib.Core.Path.{◌≡◌, refl, sym, ap, ◌∙◌}
-use mathlib.Core.Bool.{Bool, true, false, ◌&&◌, ◌||◌, or-true}
+use mathlib.Core.Bool.{true, ◌&&◌, ◌||◌, or-true}
 use mathlib.Core.List.{List, [], ◌∷◌}
 use mathlib.Core.Logic.{◌⊎◌, inl, inr, ⊎_elim, ◌↔◌}
 use native.Mathlib.Omega.{arith}
@@ -10,6 +10,7 @@ use lib.Dec.{leb, ltb, eqb}
 use lib.ListN.{length, get_or, drop}
 use lib.Seq.{get_or-drop}
 use borrow.Author.Tests.{lt-ltb, ltb-true, le-leb, leb-true, eq-eqb, ne_eqb, eqb-true}
+use Rattle.std.proofs.lemmas.Bool.{and_parts, or_cases}
 use Rattle.calculus.specs.Tree.{Tree}
 use Rattle.calculus.specs.Rules.{TreeFrame, operand, argument, function}
 use Rattle.table.specs.Sound.{SoundSlots}
@@ -17,12 +18,7 @@ use Rattle.frames.specs.Frames.{frame_width, frame_room, Record, job_words_at}
 use Rattle.table.specs.Holds.{Holds}
 use Rattle.frames.specs.Stand.{Stands, stands_operand, stands_argument, stands_function, StandFrom, ZeroFrom}
 use Rattle.frames.specs.SoundFrames.{frame_sound, each_sound, all_zero, frames_sound, SoundJob, SoundJobs, FramesSoundExactly, OneFrameList}
-use Rattle.table.proofs.SoundLaws.{both_true}
 use Rattle.table.proofs.HoldsLaws.{held_below, one_tree, sound_holds}
-
-either_true : (a b : Bool) → a || b ≡ true → (a ≡ true) ⊎ (b ≡ true)
-either_true true b e = inl refl
-either_true false b e = inr e
 
 -- ---- one frame
 
@@ -68,15 +64,15 @@ module _ (used : ℕ) (r : Record) where
   unfolding frame_sound
   frame_sound_lem = (
     λ e.
-        let (f, k) = both_true (ltb r.first used) _ e in
+        let (f, k) = and_parts (ltb r.first used) _ e in
         of_kind (ltb-true r.first used f)
         (⊎_elim
-        (λ h. let (t, l) = both_true (eqb r.tag 1) (ltb r.second used) h in
+        (λ h. let (t, l) = and_parts (eqb r.tag 1) (ltb r.second used) h in
         two (eqb-true r.tag 1 t) (ltb-true r.second used l))
-        (λ h. let (t, l) = both_true (eqb r.tag 2 || eqb r.tag 3) (eqb r.second 0) h in
+        (λ h. let (t, l) = and_parts (eqb r.tag 2 || eqb r.tag 3) (eqb r.second 0) h in
         one (⊎_elim (λ d. inl (eqb-true r.tag 2 d)) (λ d. inr (eqb-true r.tag 3 d))
-        (either_true (eqb r.tag 2) (eqb r.tag 3) t)) (eqb-true r.second 0 l))
-        (either_true (eqb r.tag 1 && ltb r.second used) _ k)),
+        (or_cases (eqb r.tag 2) (eqb r.tag 3) t)) (eqb-true r.second 0 l))
+        (or_cases (eqb r.tag 1 && ltb r.second used) _ k)),
     λ s. rw (lt-ltb r.first used s.first) (said_kind (kinds s)),
   )
 
@@ -88,7 +84,7 @@ module _ (used : ℕ) (j : List ℕ) where
   each_sound_lem zero = (λ e k l. absurd (omega arith), λ h. refl)
   each_sound_lem (suc n) = (
     λ e k l.
-        let (p, q) = both_true (each_sound used j n) (frame_sound used (job_words_at j n)) e in
+        let (p, q) = and_parts (each_sound used j n) (frame_sound used (job_words_at j n)) e in
         elim (dec_lt k n) [
           | yes g ↦ (each_sound_lem n).0 p k g
           | no g ↦ let s : n ≡ k = omega (arith, g) in rw s at ((frame_sound_lem used (job_words_at j n)).0 q)
@@ -99,8 +95,8 @@ module _ (used : ℕ) (j : List ℕ) where
 zeros_are : (xs : List ℕ) → all_zero xs ≡ true → (i : ℕ) → get_or xs i 0 ≡ 0
 unfolding all_zero
 zeros_are [] e i = refl
-zeros_are (x ∷ xs) e zero = eqb-true x 0 (both_true (eqb x 0) (all_zero xs) e).0
-zeros_are (x ∷ xs) e (suc i) = zeros_are xs (both_true (eqb x 0) (all_zero xs) e).1 i
+zeros_are (x ∷ xs) e zero = eqb-true x 0 (and_parts (eqb x 0) (all_zero xs) e).0
+zeros_are (x ∷ xs) e (suc i) = zeros_are xs (and_parts (eqb x 0) (all_zero xs) e).1 i
 
 are_zeros : (xs : List ℕ) → ((i : ℕ) → get_or xs i 0 ≡ 0) → all_zero xs ≡ true
 unfolding all_zero
@@ -120,8 +116,8 @@ pub frames_sound_lem : FramesSoundExactly
 unfolding frames_sound
 frames_sound_lem used j n = (
   λ e.
-      let (f, r) = both_true (leb n (frame_room j)) _ e in
-      let (s, z) = both_true (each_sound used j n) (all_zero (drop (frame_width * n) j)) r in
+      let (f, r) = and_parts (leb n (frame_room j)) _ e in
+      let (s, z) = and_parts (each_sound used j n) (all_zero (drop (frame_width * n) j)) r in
       record {
         fits = leb-true n (frame_room j) f;
         each = (each_sound_lem used j n).0 s;

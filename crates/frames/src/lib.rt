@@ -2,7 +2,7 @@
 // where they stand, is known here alone.
 #![tactic(auto)]
 
-ghost use Rattle.std.specs.Prelude.{◌≡◌, ◌≤◌, ◌<◌, drop};
+ghost use Rattle.std.specs.Prelude.{◌≡◌, ◌≤◌, ◌<◌};
 ghost use Rattle.frames.specs.Frames.{frame_room, frame_at, put_record, put_frame, drop_frame, cleared, FrameNames};
 ghost use Rattle.frames.specs.SoundFrames.{frame_sound, each_sound, all_zero, frames_sound};
 ghost use Rattle.table.specs.Limits.{max_slots};
@@ -11,7 +11,7 @@ use table::limits::Limit;
 use table::slots::Slot;
 
 // What is done with the tree that comes next.
-#[derive(Clone, Copy)]
+#[derive(Clone, Copy, Debug, PartialEq, Eq)]
 pub enum Frame {
     // The tree is the function, and its operand is the first slot applied to the second.
     Operand(Slot, Slot),
@@ -25,7 +25,7 @@ impl Frame {
     // The words of a frame.
     const WORDS: usize = 3;
 
-    // The first of them, for each kind of frame.
+    // The first of them, for each kind of frame: numbers, since a lent table holds them, as the interface for C says.
     const OPERAND: u32 = 1;
 
     const ARGUMENT: u32 = 2;
@@ -36,7 +36,8 @@ impl Frame {
     const BLOCK: usize = 1024;
 }
 
-// How many frames the table has room for.
+// How many frames the table has room for. That a place lies in it is asked where it is read or written: a place knows no table.
+#[tactic(auto, unfolding(crate::specs::Frames::frame_room))]
 pub fn frame_room(jobs: &[u32]) -> u32
     ensures { result ≡ frame_room jobs.now }
 {
@@ -44,23 +45,22 @@ pub fn frame_room(jobs: &[u32]) -> u32
 }
 
 // The frame at place k.
+#[tactic(auto, unfolding(crate::specs::Frames::frame_room, crate::specs::Frames::job_words_at, crate::specs::Frames::frame_at))]
 pub fn frame_at(jobs: &[u32], k: u32) -> Frame
     requires { k < frame_room jobs.now }
     ensures { result ≡ frame_at jobs.now k }
 {
     let at = Frame::WORDS * (k as usize);
-    let tag = jobs[at];
-    let first = jobs[at + 1];
-    if tag == Frame::OPERAND {
-        return Frame::Operand(Slot(first as usize), Slot(jobs[at + 2] as usize));
+    let first = Slot(jobs[at + 1] as usize);
+    match jobs[at] {
+        Frame::OPERAND => Frame::Operand(first, Slot(jobs[at + 2] as usize)),
+        Frame::ARGUMENT => Frame::Argument(first),
+        _ => Frame::Function(first),
     }
-    if tag == Frame::ARGUMENT {
-        return Frame::Argument(Slot(first as usize));
-    }
-    Frame::Function(Slot(first as usize))
 }
 
 // Writes the three words of place k.
+#[tactic(auto, unfolding(crate::specs::Frames::frame_room, crate::specs::Frames::put_record))]
 fn put_record(jobs: &mut [u32], k: u32, tag: u32, first: u32, second: u32)
     requires { k < frame_room jobs.old }
     ensures { jobs.new
@@ -73,6 +73,7 @@ fn put_record(jobs: &mut [u32], k: u32, tag: u32, first: u32, second: u32)
 }
 
 // Writes a frame at place k.
+#[tactic(auto, unfolding(crate::specs::Frames::put_frame))]
 pub fn put_frame(jobs: &mut [u32], k: u32, f: Frame)
     requires { (k < frame_room jobs.old) × FrameNames max_slots f }
     ensures { jobs.new ≡ put_frame jobs.old k f }
@@ -85,6 +86,7 @@ pub fn put_frame(jobs: &mut [u32], k: u32, f: Frame)
 }
 
 // A frame that goes is zeroed.
+#[tactic(auto, unfolding(crate::specs::Frames::drop_frame))]
 pub fn drop_frame(jobs: &mut [u32], k: u32)
     requires { k < frame_room jobs.old }
     ensures { jobs.new ≡ drop_frame jobs.old k }
@@ -93,48 +95,37 @@ pub fn drop_frame(jobs: &mut [u32], k: u32)
 }
 
 // Every word becomes 0.
+#[tactic(auto, unfolding(crate::specs::Frames::cleared))]
 pub fn clear(jobs: &mut [u32])
     ensures { jobs.new ≡ cleared jobs.old }
 {
-    let mut i: usize = 0;
-    while i < jobs.len() {
-        jobs[i] = 0;
-        i += 1;
-    }
+    jobs.fill(0);
 }
 
 // Whether three words are those of a frame that names used slots alone.
+#[tactic(auto, unfolding(crate::specs::SoundFrames::frame_sound))]
 fn frame_sound(kind: u32, first: u32, second: u32, used: u32) -> bool
     ensures { result ≡ frame_sound used (record { tag = kind; first = first; second = second }) }
 {
-    if first >= used {
-        return false;
-    }
-    if kind == Frame::OPERAND {
-        return second < used;
-    }
-    if kind == Frame::ARGUMENT {
-        return second == 0;
-    }
-    if kind == Frame::FUNCTION {
-        return second == 0;
-    }
-    false
+    first < used
+        && match kind {
+            Frame::OPERAND => second < used,
+            Frame::ARGUMENT | Frame::FUNCTION => second == 0,
+            _ => false,
+        }
 }
 
 // Whether the first `waiting` frames are sound.
+#[tactic(auto, using(crate::proofs::FramesTest::each_none, crate::proofs::FramesTest::each_more, crate::proofs::FramesTest::each_broken), unfolding(crate::specs::Frames::frame_room, crate::specs::Frames::job_words_at))]
 fn each_sound(jobs: &[u32], used: u32, waiting: u32) -> bool
     requires { waiting ≤ frame_room jobs.now }
     ensures { result ≡ each_sound used jobs.now waiting }
 {
-    let mut k: u32 = 0;
-    while k < waiting {
+    for k in 0..waiting {
         let at = Frame::WORDS * (k as usize);
-        let good = frame_sound(jobs[at], jobs[at + 1], jobs[at + 2], used);
-        if !good {
+        if !frame_sound(jobs[at], jobs[at + 1], jobs[at + 2], used) {
             return false;
         }
-        k += 1;
     }
     true
 }
@@ -143,52 +134,28 @@ fn each_sound(jobs: &[u32], used: u32, waiting: u32) -> bool
 fn all_zero(words: &[u32]) -> bool
     ensures { result ≡ all_zero words.now }
 {
-    let mut bits: u32 = 0;
-    let mut i: usize = 0;
-    while i < words.len() {
-        bits = bits | words[i];
-        i += 1;
-    }
-    bits == 0
+    words.iter().fold(0, |bits, word| bits | *word) == 0
 }
 
-// Where a block of words that starts there ends.
-fn block_end(start: usize, len: usize) -> usize
-    requires { start < len }
-    ensures { (start < result) × (result ≤ len) }
+// Whether every word is 0: block by block, up to the first that has another.
+#[tactic(auto, using(crate::proofs::FramesTest::zero_append, crate::proofs::FramesTest::zero_empty))]
+fn zeros(words: &[u32]) -> bool
+    ensures { result ≡ all_zero words.now }
 {
-    if len - start > Frame::BLOCK {
-        return start + Frame::BLOCK;
-    }
-    len
-}
-
-// Whether every word from there on is 0: block by block, up to the first that has another.
-fn zeros_from(jobs: &[u32], from: usize) -> bool
-    ensures { result ≡ all_zero (drop from jobs.now) }
-{
-    let mut i: usize = from;
-    while i < jobs.len() {
-        let end = block_end(i, jobs.len());
-        let zero = all_zero(&jobs[i..end]);
-        if !zero {
+    for block in words.chunks(Frame::BLOCK) {
+        if !all_zero(block) {
             return false;
         }
-        i = end;
     }
     true
 }
 
 // Whether the waiting frames are sound, and all words above them 0.
+#[tactic(auto, unfolding(crate::specs::SoundFrames::frames_sound, crate::specs::Frames::frame_room))]
 pub fn frames_sound(jobs: &[u32], used: u32, waiting: u32) -> bool
     ensures { result ≡ frames_sound used jobs.now waiting }
 {
-    if frame_room(jobs) < waiting {
-        return false;
-    }
-    let good = each_sound(jobs, used, waiting);
-    if !good {
-        return false;
-    }
-    zeros_from(jobs, Frame::WORDS * (waiting as usize))
+    waiting <= frame_room(jobs)
+        && each_sound(jobs, used, waiting)
+        && zeros(&jobs[Frame::WORDS * (waiting as usize)..])
 }

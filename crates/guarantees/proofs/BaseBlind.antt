@@ -2,7 +2,7 @@
 use mathlib.Core.Path.{◌≡◌}
 use mathlib.Core.List.{List, ◌++◌}
 use Prim.Native.Nat.{ℕ}
-use Rattle.engine.specs.declared.RunAnswer.{RunAnswer}
+use Rattle.engine.specs.Answer.{RunAnswer}
 use Rattle.engine.specs.Run.{Ran, ran, run_tail, ran_with}
 use Rattle.guarantees.specs.Run.{BaseBlind}
 use Rattle.guarantees.proofs.Calls.{run_behind}

@@ -10,6 +10,7 @@ use native.Mathlib.Decide.{dec_lt}
 use lib.ListN.{length, take, drop, take-append-drop}
 use lib.Seq.{drop_at, length-take-le}
 use lib.IntN.{ℤ, pos, negsuc}
+use Rattle.std.specs.Prelude.{Err}
 use Rattle.calculus.specs.Tree.{Tree}
 use Rattle.calculus.specs.Rules.{TreeFrame}
 use Rattle.calculus.specs.Machine.{Outcome}
@@ -21,13 +22,11 @@ use Rattle.table.specs.Holds.{Holds}
 use Rattle.table.proofs.SoundLaws.{each_sound_lem, sound_breaks, slots_sound as slots-sound-test}
 use Rattle.table.proofs.HoldsLaws.{sound_holds}
 use Rattle.frames.proofs.SoundFrames.{one_list}
-use Rattle.engine.specs.declared.RunAnswer.{RunAnswer}
-use Rattle.engine.specs.declared.RunAnswer.TheVariants.{Refused}
 use Rattle.stepping.specs.declared.State.{State}
 use Rattle.engine.specs.Run.{Ran, ran, drive, jobs_from, state_from, ran_with, run_from}
 use Rattle.engine.specs.declared.From.{From}
 use Rattle.engine.specs.declared.From.TheVariants.{Scratch, Stop}
-use Rattle.engine.specs.Answer.{run_numbers}
+use Rattle.engine.specs.Answer.{RunAnswer, run_numbers}
 use Rattle.guarantees.specs.Agrees.{Agrees}
 use Rattle.guarantees.specs.Run.{RunCall, steps_before, TooMany, Waiting, later, SimulatesFrom, started as let-start}
 use Rattle.guarantees.specs.Run.{OutOfTable, base_negative, base_past, above_room, Misplaced, negative, not_used, Damaged, JobsDamaged}
@@ -174,9 +173,9 @@ module _ (from : From) (w v j k : List ℕ) (base f x : ℤ) (used fuel : ℕ) (
       (s : Begins from w j base f x used fuel) × Agrees (drop s.at w) used j (drop s.at v) k (run_numbers a) (outcome s)
 
   -- is no refusal
-  not_refused : (n : ℕ) → let-start n ≡ false → ran w j (Refused n) ≡ ran v k a → Begun
+  not_refused : (n : ℕ) → let-start n ≡ false → ran w j (Err n) ≡ ran v k a → Begun
   not_refused n z e =
-      let y : Refused n ≡ a = cc in
+      let y : Err n ≡ a = cc in
       absurd (false≢true (sym z ∙ ap (λ (x : RunAnswer). let-start (run_numbers x).number) y ∙ goes))
 
   judged : (r : Ran) → Judged from w j base f x used fuel r → run_from from w base f x used fuel j ≡ r → r ≡ ran v k a → Begun

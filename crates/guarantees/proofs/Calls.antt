@@ -7,6 +7,7 @@ use native.Mathlib.Omega.{arith}
 use lib.ListN.{length}
 use lib.IntN.{ℤ, pos}
 use borrow.Author.Tests.{lt-ltb}
+use Rattle.std.specs.Prelude.{Err}
 use Rattle.refusals.specs.Refusals.{answer, Clear, none}
 use Rattle.refusals.proofs.Rows.{passed_first}
 use Rattle.refusals.proofs.Choice.{is_passed}
@@ -16,7 +17,6 @@ use Rattle.table.proofs.BaseLaws.{from_after}
 use Rattle.frames.proofs.SoundFrames.{frames_sound_lem}
 use Rattle.engine.specs.declared.From.{From}
 use Rattle.engine.specs.declared.From.TheVariants.{Scratch, Stop}
-use Rattle.engine.specs.declared.RunAnswer.TheVariants.{Refused}
 use Rattle.engine.specs.Admission.{slot_rows, frames_unsound, max_steps, steps_overflow, stop_rows, run_rows}
 use Rattle.engine.specs.Run.{ran, drive, jobs_from, state_from, run_tail, ran_with, run_from}
 use Rattle.engine.proofs.AdmissionLaws.{stop_clear, rows_clear}
@@ -38,15 +38,15 @@ pub go_started : (from : From) (w : List ℕ) (fuel : ℕ) (j : List ℕ) (f x :
     ≡ drive fuel (steps_before from) w (jobs_from from j) (state_from from (named_slot f) (named_slot x) used)
 unfolding run_tail
 go_started Scratch w fuel j f x used clear jobs few =
-    sym (is_passed (λ n. ran w j (Refused n)) _ (run_rows Scratch w f x used fuel j) (rows_clear w f x used fuel j Scratch clear none))
+    sym (is_passed (λ n. ran w j (Err n)) _ (run_rows Scratch w f x used fuel j) (rows_clear w f x used fuel j Scratch clear none))
 go_started (Stop waiting steps) w fuel j f x used clear jobs few =
     let good = (frames_sound_lem used j waiting).1 (jobs_are_sound used j waiting jobs) in
-    sym (is_passed (λ n. ran w j (Refused n)) _ (run_rows (Stop waiting steps) w f x used fuel j)
+    sym (is_passed (λ n. ran w j (Err n)) _ (run_rows (Stop waiting steps) w f x used fuel j)
     (rows_clear w f x used fuel j (Stop waiting steps) clear (stop_clear j used waiting steps fuel good (omega (arith, few)))))
 
 pub go_too_many : (waiting steps : ℕ) (w : List ℕ) (fuel : ℕ) (j : List ℕ) (f x : ℤ) (used : ℕ) → Clear (slot_rows w f x used)
     → SoundJobs used j waiting → max_steps < steps + fuel
-    → run_tail (Stop waiting steps) w f x used fuel j ≡ ran w j (Refused 40)
+    → run_tail (Stop waiting steps) w f x used fuel j ≡ ran w j (Err 40)
 unfolding run_tail run_rows stop_rows frames_unsound steps_overflow answer
 go_too_many waiting steps w fuel j f x used clear jobs many =
     let asked = passed_first (stop_rows j used waiting steps fuel) clear in

@@ -6,6 +6,7 @@ use native.Mathlib.Omega.{arith}
 use lib.ListN.{length, get_or, drop}
 use lib.IntN.{ℤ, pos}
 use lib.Seq.{drop-append_seam}
+use Rattle.std.specs.Prelude.{Ok, Err}
 use Rattle.refusals.specs.Refusals.{Clear}
 use Rattle.refusals.proofs.Choice.{by_answer}
 use Rattle.table.specs.Slots.{room, named_slot, SameSlots}
@@ -15,31 +16,31 @@ use Rattle.frames.specs.SoundFrames.{SoundJob, SoundJobs}
 use Rattle.table.proofs.SoundLaws.{sound_same}
 use Rattle.frames.proofs.SoundFrames.{frames_sound_lem}
 use Rattle.stepping.specs.declared.State.{State}
-use Rattle.stepping.specs.declared.Status.{Status}
-use Rattle.stepping.specs.declared.Status.TheVariants.{Going, Done as IsDone, OutOfSlots, OutOfPlaces}
+use Rattle.stepping.specs.declared.Turn.TheVariants.{Going, Done as IsDone, Stopped as IsStopped}
 use Rattle.stepping.specs.declared.Turn.{Turn}
-use Rattle.engine.specs.declared.RunAnswer.{RunAnswer}
-use Rattle.engine.specs.declared.RunAnswer.TheVariants.{Refused, Done, Stopped}
+use Rattle.stepping.specs.Stops.{stops_with}
+use Rattle.stepping.proofs.StopNumbers.{stop_range}
+use Rattle.engine.specs.declared.Ending.TheVariants.{Done, Stopped}
 use Rattle.stepping.specs.Step.{Stepped, at, step}
 use Rattle.engine.specs.Admission.{slot_rows, from_rows, run_rows}
 use Rattle.engine.specs.Run.{Ran, ran, resume_as, resume, drive, waiting_of, jobs_from, state_from, run_tail, ran_with, run_from}
 use Rattle.engine.specs.declared.From.{From}
 use Rattle.engine.specs.declared.From.TheVariants.{Scratch, Stop}
-use Rattle.engine.specs.Answer.{run_numbers}
+use Rattle.engine.specs.Answer.{RunAnswer, run_numbers}
 use Rattle.stepping.specs.Ready.{Runnable, Waits}
-use Rattle.stepping.proofs.Keeps.{Left, step_keeps}
+use Rattle.stepping.proofs.Keeps.{LeftBy, Left, step_keeps}
 use Rattle.engine.proofs.AdmissionLaws.{slots_clear, clear_some, clear_places, clear_ready, clear_frames, clear_waits}
 use Rattle.engine.proofs.AdmissionLaws.{run_numbered, run_slots, run_begins}
 use Rattle.guarantees.specs.Run.{steps_before, TooMany, JobsDamaged, SameJobs, DoneStays}
 use Rattle.guarantees.proofs.Calls.{go_started, run_behind}
 use Rattle.guarantees.proofs.Verdict.{Ended, RunVerdict, out, misplaced, damaged, at_last, started, verdict}
-use Rattle.guarantees.proofs.SameSteps.{SameWords, SameFrames, Unless, Same, Stays, frames_cleared, step_stays}
+use Rattle.guarantees.proofs.SameSteps.{SameWords, SameFrames, StaysAs, Stays, frames_cleared, step_stays}
 
 -- if the first run is done, so is the second, with the same answer, and the used slots are the same
 abbrev EndsAs : List ℕ → RunAnswer → Ran → Type 0
-EndsAs v (Done slot steps used) (ran v' k a) = (a ≡ Done slot steps used) × SameSlots used v v'
-EndsAs v (Refused n) r = Unit {0}
-EndsAs v (Stopped n f x steps used waiting) r = Unit {0}
+EndsAs v (Ok (Done slot steps used)) (ran v' k a) = (a ≡ Ok (Done slot steps used)) × SameSlots used v v'
+EndsAs v (Err n) r = Unit {0}
+EndsAs v (Ok (Stopped why f x steps used waiting)) r = Unit {0}
 
 abbrev Ends : Ran → Ran → Type 0
 Ends (ran v k a) r = EndsAs v a r
@@ -53,17 +54,15 @@ Follows rest rest' =
     → SameWords w w' s.used → SameFrames j j' s.waiting → Ends (rest k w j s) (rest' k w' j' s)
 
 module _ (rest rest' : ℕ → List ℕ → List ℕ → State → Ran) (follows : Follows rest rest') (k : ℕ) (s : State) where
-  resumed : (w j : List ℕ) (t : Turn) (c : Stepped) → Left (at w j t)
-      → (status : Status) → t.status ≡ status → Unless status (Same w j t c)
-      → Ends (resume_as rest k s w j t.state status) (resume rest' k s c)
-  resumed w j t (at w' j' t') left Going e same =
-      rw (← same.0, e) (follows (suc k) w j w' j' t.state left.0 left.1 same.1 same.2)
-  resumed w j t (at w' j' t') left IsDone e same = rw (← same.0, e) (refl, same.1.slots)
-  resumed w j t c left OutOfSlots e same = tt
-  resumed w j t c left OutOfPlaces e same = tt
+  resumed : (w j : List ℕ) (t : Turn) (c : Stepped) → LeftBy w j t → StaysAs w j t c
+      → Ends (resume_as rest k s w j t) (resume rest' k s c)
+  resumed w j (Going next) (at w' j' t') left same =
+      rw same.0 (follows (suc k) w j w' j' next left.0 left.1 same.1 same.2)
+  resumed w j (IsDone a used) (at w' j' t') left same = rw same.0 (refl, same.1.slots)
+  resumed w j (IsStopped why) c left same = tt
 
   resume_stays : (c c' : Stepped) → Left c → Stays c c' → Ends (resume rest k s c) (resume rest' k s c')
-  resume_stays (at w j t) c' left same = resumed w j t c' left t.status refl same
+  resume_stays (at w j t) c' left same = resumed w j t c' left same
 
 drive_stays : (n n' : ℕ) → n ≤ n' → Follows (drive n) (drive n')
 unfolding drive
@@ -120,7 +119,7 @@ module _ (w w' j j' : List ℕ) (used fuel fuel' : ℕ) (slots : SameSlots used 
       → Ends (run_tail from w f x used fuel j) (run_tail from w' f x used fuel' j')
   unfolding run_tail
   tail_stays from jobs few =
-      by_answer (λ n. ran w j (Refused n)) _ (λ r. Ends r (run_tail from w' f x used fuel' j')) (run_rows from w f x used fuel j)
+      by_answer (λ n. ran w j (Err n)) _ (λ r. Ends r (run_tail from w' f x used fuel' j')) (run_rows from w f x used fuel j)
       (run_numbered w f x used fuel j from) (λ n _ _. tt)
       (λ clear.
       let slots_clear = run_slots w f x used fuel j from clear in
@@ -133,31 +132,31 @@ module _ (w w' j j' : List ℕ) (used fuel fuel' : ℕ) (slots : SameSlots used 
 
 -- after the words before the base
 finish : (before v k : List ℕ) (slot : ℤ) (steps used : ℕ) (r r' : Ran)
-    → ran_with before r ≡ ran (before ++ v) k (Done slot steps used) → Ends r r'
-    → (v' : List ℕ) × (k' : List ℕ) × (r' ≡ ran v' k' (Done slot steps used)) × SameSlots used v v'
+    → ran_with before r ≡ ran (before ++ v) k (Ok (Done slot steps used)) → Ends r r'
+    → (v' : List ℕ) × (k' : List ℕ) × (r' ≡ ran v' k' (Ok (Done slot steps used))) × SameSlots used v v'
 finish before v k slot steps used (ran w j a) (ran w' j' a') e h =
     let p : before ++ w ≡ before ++ v = cc in
     let q : w ≡ v = sym (drop-append_seam before w) ∙ ap (drop (length before)) p ∙ drop-append_seam before v in
-    let b : a ≡ Done slot steps used = cc in
-    let s : EndsAs v (Done slot steps used) (ran w' j' a') = rw (q, b) at h in
+    let b : a ≡ Ok (Done slot steps used) = cc in
+    let s : EndsAs v (Ok (Done slot steps used)) (ran w' j' a') = rw (q, b) at h in
     (w', j', ap (ran w' j') s.0, s.1)
 
 -- a run that is answered 0 is done
 module _ (w v j k : List ℕ) (a : RunAnswer) (z : (run_numbers a).number ≡ 0) where
   abbrev IsDoneRun : Type 0
-  IsDoneRun = (slot : ℤ) × (steps : ℕ) × (used : ℕ) × (a ≡ Done slot steps used)
+  IsDoneRun = (slot : ℤ) × (steps : ℕ) × (used : ℕ) × (a ≡ Ok (Done slot steps used))
 
-  not_refused : (n : ℕ) → (n ≡ 0 → ⊥) → ran w j (Refused n) ≡ ran v k a → IsDoneRun
+  not_refused : (n : ℕ) → (n ≡ 0 → ⊥) → ran w j (Err n) ≡ ran v k a → IsDoneRun
   not_refused n h e =
-      let q : Refused n ≡ a = cc in
+      let q : Err n ≡ a = cc in
       absurd (h (ap (λ (x : RunAnswer). (run_numbers x).number) q ∙ z))
 
   ended_done : (b : RunAnswer) → a ≡ b → Ended (ran v k b) → IsDoneRun
-  ended_done (Refused n) e h = absurd h
-  ended_done (Done slot steps used) e h = (slot, steps, used, e)
-  ended_done (Stopped n f x steps used waiting) e h =
-      let q : n ≡ 0 = sym (ap (λ (x : RunAnswer). (run_numbers x).number) e) ∙ z in
-      absurd (omega arith)
+  ended_done (Err n) e h = absurd h
+  ended_done (Ok (Done slot steps used)) e h = (slot, steps, used, e)
+  ended_done (Ok (Stopped why f x steps used waiting)) e h =
+      let q : stops_with why ≡ 0 = sym (ap (λ (x : RunAnswer). (run_numbers x).number) e) ∙ z in
+      absurd (omega (arith, (stop_range why).0))
 
   done_is : {A B C D : Type 0} {r : Ran} → RunVerdict w j A B C D r → r ≡ ran v k a → IsDoneRun
   done_is (out o) e = not_refused 21 (omega arith) e
@@ -175,8 +174,8 @@ module _ (from : From) (before before' w w' v j j' k : List ℕ) (f x : ℤ) (us
       × SameSlots (run_numbers a).used v v'
 
   again : (slot : ℤ) (steps used' : ℕ)
-      → run_from from (before ++ w) (pos (length before)) f x used fuel j ≡ ran (before ++ v) k (Done slot steps used')
-      → Ends (run_tail from w f x used fuel j) (run_tail from w' f x used fuel' j') → Again (Done slot steps used')
+      → run_from from (before ++ w) (pos (length before)) f x used fuel j ≡ ran (before ++ v) k (Ok (Done slot steps used'))
+      → Ends (run_tail from w f x used fuel j) (run_tail from w' f x used fuel' j') → Again (Ok (Done slot steps used'))
   again slot steps used' e ends =
       let first = sym (run_behind from before w j f x used fuel) ∙ e in
       let r

@@ -11,12 +11,14 @@ use lib.ListN.{length, take, drop, take-append-drop, length-reverse}
 use lib.Seq.{length-take-le}
 use lib.Dec.{eqb}
 use lib.IntN.{ℤ, pos}
+use Rattle.std.specs.Prelude.{Ok, Err}
 use Rattle.calculus.specs.Machine as machine
 use Rattle.table.specs.Slots.{room}
 use Rattle.frames.specs.Frames.{frame_room}
 use Rattle.frames.proofs.SoundFrames.{standing_sound}
 use Rattle.stepping.specs.declared.State.{State}
-use Rattle.engine.specs.declared.RunAnswer.TheVariants.{Refused, Stopped}
+use Rattle.stepping.specs.declared.stops.Stop.TheVariants.{OutOfFuel}
+use Rattle.engine.specs.declared.Ending.TheVariants.{Stopped}
 use Rattle.stepping.specs.Step.{Stepped, step}
 use Rattle.engine.specs.Admission.{max_steps}
 use Rattle.engine.specs.Run.{Ran, ran, resume, drive, ran_with, run_from}
@@ -87,16 +89,16 @@ not_many (Stop waiting steps) fuel l h = omega arith
 module _ (from : From) (w j : List ℕ) (base f x : ℤ) (used : ℕ) where
   -- a refusal by its number is that case of the answer
   is_refused : (fuel q : ℕ) → Listed 40 q → (r : Ran) → run_from from w base f x used fuel j ≡ r → RefusedWith q w j r
-      → r ≡ ran w j (Refused q)
+      → r ≡ ran w j (Err q)
   is_refused fuel q l (ran v k a) e (z, p, i) =
-      cc (one_answer a (Refused q) (number_tells from w v j k base f x used fuel a e) l z, p, i)
+      cc (one_answer a (Err q) (number_tells from w v j k base f x used fuel a e) l z, p, i)
 
   module _ (m n : ℕ) (most : steps_before from + (m + n) ≤ max_steps) where
     abbrev short : Ran
     short = run_from from w base f x used m j
 
     -- what is refused with the sum is refused with the first part
-    both_refused : (q : ℕ) → Listed 40 q → eqb q 31 ≡ false → RefusedWith q w j short → next_part run_from base n short ≡ ran w j (Refused q)
+    both_refused : (q : ℕ) → Listed 40 q → eqb q 31 ≡ false → RefusedWith q w j short → next_part run_from base n short ≡ ran w j (Err q)
     both_refused q l z h = rw (is_refused m q l short refl h, z)
 
     both_begin : Begins from w j base f x used (m + n) → next_part run_from base n short ≡ run_from from w base f x used (m + n) j
@@ -136,13 +138,13 @@ pub no_fuel_keeps : NoFuelKeeps
 unfolding drive
 no_fuel_keeps waiting k₀ w v j k base f x used a e go =
     let (s, _) = begun (Stop waiting k₀) w v j k base f x used 0 a go e in
-    let h : ran (take s.at w ++ drop s.at w) j (Stopped 31 (pos s.f_slot) (pos s.x_slot) k₀ used waiting) ≡ ran v k a
+    let h : ran (take s.at w ++ drop s.at w) j (Ok (Stopped OutOfFuel (pos s.f_slot) (pos s.x_slot) k₀ used waiting)) ≡ ran v k a
     = sym (drives s 0 s.few) ∙ e
     in
     let p : take s.at w ++ drop s.at w ≡ v = cc in
-    let q : Stopped 31 (pos s.f_slot) (pos s.x_slot) k₀ used waiting ≡ a = cc in
+    let q : Ok (Stopped OutOfFuel (pos s.f_slot) (pos s.x_slot) k₀ used waiting) ≡ a = cc in
     let i : j ≡ k = cc in
-    let named : Stopped 31 f x k₀ used waiting ≡ Stopped 31 (pos s.f_slot) (pos s.x_slot) k₀ used waiting
+    let named : Stopped OutOfFuel f x k₀ used waiting ≡ Stopped OutOfFuel (pos s.f_slot) (pos s.x_slot) k₀ used waiting
     = cc (s.f_is, s.x_is)
     in
-    (sym q ∙ sym named, sym p ∙ take-append-drop s.at w, sym i)
+    (sym q ∙ ap Ok (sym named), sym p ∙ take-append-drop s.at w, sym i)

@@ -19,7 +19,7 @@ use Rattle.frames.specs.SoundFrames.{SoundJob}
 use Rattle.table.proofs.Tests.{by_test}
 use Rattle.frames.proofs.FrameLaws.{job_room_is}
 use Rattle.table.proofs.HoldsLaws.{from_at}
-use Rattle.table.proofs.SoundLaws.{both_true}
+use Rattle.std.proofs.lemmas.Bool.{and_parts}
 use Rattle.frames.proofs.SoundFrames.{stand_sound}
 use Rattle.engine.specs.declared.From.{From}
 use Rattle.engine.specs.declared.From.TheVariants.{Scratch, Stop}
@@ -122,10 +122,10 @@ module _ (w : List ℕ) (n : ℕ) (store : List Tree) (good : Holding w n store)
     job_seen =
         by_test (JobSeen words) (eqb t 1) (λ e. operand_seen (eqb-true t 1 e) (place_seen (pos a)) (place_seen (pos b)))
         (λ p. by_test (JobSeen words) (eqb t 2 && eqb b 0)
-        (λ e. let (d, z) = both_true (eqb t 2) (eqb b 0) e in
+        (λ e. let (d, z) = and_parts (eqb t 2) (eqb b 0) e in
         argument_seen (eqb-true t 2 d) (eqb-true b 0 z) (place_seen (pos a)))
         (λ q. by_test (JobSeen words) (eqb t 3 && eqb b 0)
-        (λ e. let (d, z) = both_true (eqb t 3) (eqb b 0) e in
+        (λ e. let (d, z) = and_parts (eqb t 3) (eqb b 0) e in
         function_seen (eqb-true t 3 d) (eqb-true b 0 z) (place_seen (pos a)))
         (λ r. unsound (λ s. no_other s (eqb-false t 1 p) q r))))
 

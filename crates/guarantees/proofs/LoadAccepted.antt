@@ -1,5 +1,6 @@
 -- A load is accepted exactly where no check holds, which is where the bundle is sound and fits; any other is refused by the smallest
 -- number that applies, and keeps every word.
+use Rattle.std.specs.Prelude.{Err}
 use Prim.Native.Nat.{ℕ, ◌≤◌, ◌<◌}
 use mathlib.Core.Path.{◌≡◌, refl, sym, ap, ◌∙◌}
 use mathlib.Core.List.{List, [], ◌∷◌}
@@ -27,7 +28,6 @@ use Rattle.soundness.proofs.File.{false_of, clear_sound, sound_clear}
 use Rattle.soundness.proofs.Sections.{described_manifest, sound_nodes, one_nodes, one_exports}
 use Rattle.soundness.proofs.Smallest.{Means, ◌else◌, means_parts, means_map, Consecutive, first_exactly}
 use Rattle.soundness.proofs.Applies.{bounds, all_means}
-use Rattle.loader.specs.declared.LoadAnswer.TheVariants.{Refused}
 use Rattle.loader.specs.Answer.{load_numbers}
 use Rattle.loader.specs.Load.{records_in, exports_in, unfit, crowded, load_checks, load_refusal, Loaded, accept, accept_from, load}
 use Rattle.guarantees.specs.Load.{Loadable, load_numbers_of, LoadAcceptedExactly, LoadNumberExactly}
@@ -183,6 +183,6 @@ load_refusal_keeps file words words' base exports exports' a e n =
     let q : (load_numbers a).number ≡ r = sym (ap (λ (l : Loaded). (load_numbers_of l).number) e) ∙ number_is file words base exports in
     let d : r ≡ 0 → ⊥ = λ z. n (q ∙ z) in
     let f = sym (load_refused file words base exports d) ∙ e in
-    let g : Refused r ≡ a = cc in
+    let g : Err r ≡ a = cc in
     let most = (load_bounds file words base exports ((smallest_exactly file words base exports r).0 (refl, d)).applies).1 in
     (r, most, rw (← g), cc, cc)

@@ -1,4 +1,7 @@
 -- An accepted load leaves the records' trees in the slots, in the order of placing, and the slots of the exports.
+use Rattle.std.specs.Prelude.{Result, Err}
+use Rattle.loader.specs.Accepted.{accepted}
+use Rattle.loader.specs.declared.Accepted.{Accepted}
 use Prim.Native.Nat.{ℕ, zero, suc, ◌≤◌, ◌<◌}
 use mathlib.Core.Path.{◌≡◌, refl, sym, ap, ◌∙◌}
 use mathlib.Core.Bool.{false}
@@ -23,8 +26,6 @@ use Rattle.soundness.specs.NodesGrammar.{IsNodes}
 use Rattle.soundness.specs.Sound.{Sound}
 use Rattle.soundness.proofs.NodesCircles.{short_exactly}
 use Rattle.soundness.proofs.Meaning.{one_tree_each}
-use Rattle.loader.specs.declared.LoadAnswer.{LoadAnswer}
-use Rattle.loader.specs.declared.LoadAnswer.TheVariants.{Refused, Accepted}
 use Rattle.loader.specs.Answer.{load_numbers}
 use Rattle.unpacking.specs.Written.{slot_named, written, slots_named}
 use Rattle.loader.specs.Load.{unfit, load_refusal, loaded, exports_written, accept, accept_from, load}
@@ -126,7 +127,7 @@ module _ (file w out : List ℕ) (b : ℕ) (sound : Sound file) (inside : b ≤ 
   left_table : drop b left ≡ table
   left_table = drop_at (take b w) table b (length-take-le b w inside)
 
-  pub loads : Loads file w (pos b) out left (exports_written rs es out) (load_numbers (Accepted (length rs) (length es)))
+  pub loads : Loads file w (pos b) out left (exports_written rs es out) (load_numbers (accepted (length rs) (length es)))
   unfolding exports_written
   loads =
       let is-order = in_order rs are sound.distinct sound.closed whole some in
@@ -169,7 +170,7 @@ module _ (file w out : List ℕ) (base : ℤ) (e : load_refusal file w base out 
       load file w base out ≡
       loaded (take b w ++ written sound.nodes 0 sound.nodes (drop b w))
       (exports_written sound.nodes sound.described.manifest.exports out)
-      (Accepted (length sound.nodes) (length sound.described.manifest.exports))
+      (accepted (length sound.nodes) (length sound.described.manifest.exports))
   unfolding accept_from accept
   accepted_as sound b q inside =
       load_unrefused file w base out e ∙ rw (q, from_inside w _ _ b inside, nodes_read sound, exports_read sound)
@@ -179,8 +180,8 @@ load_leaves file words words' base exports exports' a e y =
     elim (ℕ_discrete (load_refusal file words base exports) 0) [
       | no d ↦
           let f = sym (load_refused file words base exports d) ∙ e in
-          let q : Refused (load_refusal file words base exports) ≡ a = cc in
-          absurd (d (ap (λ (x : LoadAnswer). (load_numbers x).number) q ∙ y))
+          let q : Err (load_refusal file words base exports) ≡ a = cc in
+          absurd (d (ap (λ (x : Result Accepted ℕ). (load_numbers x).number) q ∙ y))
       | yes z ↦
           let l = unrefused_loadable file words base exports z in
           let sound = l.sound in
@@ -191,7 +192,7 @@ load_leaves file words words' base exports exports' a e y =
           (loads file words exports b sound inside fits l.space)
     ]
   where
-    go : {w v : List ℕ} {c : LoadAnswer} (b : ℕ) → base ≡ pos b → loaded w v c ≡ loaded words' exports' a →
+    go : {w v : List ℕ} {c : Result Accepted ℕ} (b : ℕ) → base ≡ pos b → loaded w v c ≡ loaded words' exports' a →
         Loads file words (pos b) exports w v (load_numbers c) → Loads file words base exports words' exports' (load_numbers a)
     go {w} {v} {c} b q f l =
         let x : w ≡ words' = cc in

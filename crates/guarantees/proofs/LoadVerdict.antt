@@ -1,4 +1,5 @@
 -- How a load is judged: which of its checks hold, and what it comes to.
+use Rattle.std.specs.Prelude.{Err}
 use Prim.Native.Nat.{ℕ, ◌≤◌, ◌<◌}
 use mathlib.Core.Path.{◌≡◌, refl, sym, ◌∙◌}
 use mathlib.Core.Bool.{Bool, true, false}
@@ -16,7 +17,6 @@ use Rattle.refusals.proofs.Rows.{accept, clear_row, clear_joined, clear_before, 
 use Rattle.table.specs.Slots.{room}
 use Rattle.table.proofs.BaseLaws.{from_negative, from_past, from_inside, by_base}
 use Rattle.bundle.specs.Checks.{checks}
-use Rattle.loader.specs.declared.LoadAnswer.TheVariants.{Refused}
 use Rattle.loader.specs.Load.{records_in, exports_in, unfit, crowded, load_checks, load_refusal, loaded, accept_from, load}
 use Rattle.loader.proofs.Refusals.{all_clear}
 use Rattle.guarantees.specs.Load.{Unfit, base_negative, base_past, small_room}
@@ -77,6 +77,6 @@ module _ (file w : List ℕ) (base : ℤ) (out : List ℕ) where
   load_unrefused e = rw (eq-eqb (load_refusal file w base out) 0 e)
 
   pub load_refused : (load_refusal file w base out ≡ 0 → ⊥) →
-      load file w base out ≡ loaded w out (Refused (load_refusal file w base out))
+      load file w base out ≡ loaded w out (Err (load_refusal file w base out))
   unfolding load
   load_refused n = rw (ne_eqb (load_refusal file w base out) 0 n)

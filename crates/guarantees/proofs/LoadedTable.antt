@@ -1,5 +1,6 @@
 -- What the slots hold once all records are written: each the tree that its record's hash names.
-use Prim.Native.Nat.{ℕ, zero, suc, ◌+◌, ◌-◌, ◌≤◌, ◌<◌}
+use Rattle.std.specs.Prelude.{Option, Some, None}
+use Prim.Native.Nat.{ℕ, suc, ◌+◌, ◌-◌, ◌≤◌, ◌<◌}
 use mathlib.Core.Path.{◌≡◌, refl, sym, ap, ◌∙◌, subst}
 use mathlib.Core.List.{List, [], ◌∷◌}
 use native.Mathlib.Omega.{arith}
@@ -7,8 +8,6 @@ use native.Mathlib.Nat.{zero-add}
 use lib.ListN.{length, get_or}
 use Rattle.lists.specs.Lists.{index_of}
 use Rattle.lists.specs.Among.{Among, here, there, Distinct}
-use Rattle.lists.specs.declared.Found.{Found}
-use Rattle.lists.specs.declared.Found.TheVariants.{Index, Nothing}
 use Rattle.lists.proofs.Index.{index_none}
 use Rattle.sizes.specs.Sizes.{nodes_size}
 use Rattle.calculus.specs.Tree.{Tree}
@@ -55,11 +54,11 @@ module _ (rs : List Record) {s : List ℕ} (are : IsNodes rs s) (apart : Distinc
   unfolding slot_named link_of
   named_slot_lem h i l e = told (index_of h 0 (hashes rs)) refl
     where
-      told : (f : Found) → index_of h 0 (hashes rs) ≡ f → slot_found rs f ≡ record_slot rs i
-      told (Index k) q =
+      told : (f : Option ℕ) → index_of h 0 (hashes rs) ≡ f → slot_found rs f ≡ record_slot rs i
+      told (Some k) q =
           let (m, g) = link_hash rs h k (ap link_to q) in
           ap (record_slot rs) (one_number rs apart k i m l (g ∙ sym e))
-      told Nothing q =
+      told None q =
           absurd (index_none h 0 (hashes rs) q (subst (λ (x : List ℕ). Among x (hashes rs)) e (hash_among (record_at_lem rs i l))))
 
   -- slot k is that of the k-th placed record

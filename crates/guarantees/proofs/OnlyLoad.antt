@@ -1,13 +1,13 @@
 -- A call that keeps the promises of the load call does what it does: what both accept they leave and answer alike, and what
 -- they refuse has one lowest number.
-use Prim.Native.Nat.{◌<◌}
+use Rattle.std.specs.Prelude.{Result, Ok, Err}
+use Rattle.loader.specs.declared.Accepted.{Accepted}
+use Prim.Native.Nat.{ℕ, ◌<◌}
 use mathlib.Core.Path.{◌≡◌, refl, sym, ap, ◌∙◌}
 use mathlib.Core.Logic.Iff
 use native.Mathlib.Omega.{arith}
 use native.Mathlib.Decide.{ℕ_discrete}
 use Rattle.soundness.proofs.Smallest.{one_number}
-use Rattle.loader.specs.declared.LoadAnswer.{LoadAnswer}
-use Rattle.loader.specs.declared.LoadAnswer.TheVariants.{Refused, Accepted}
 use Rattle.loader.specs.Answer.{LoadNumbers, load_numbers}
 use Rattle.loader.specs.Load.{Loaded, loaded, load}
 use Rattle.guarantees.specs.Load.{load_numbers_of, OnlyLoad}
@@ -16,13 +16,15 @@ use Rattle.guarantees.proofs.LoadLeaves.{load_leaves}
 use Rattle.guarantees.proofs.OneLoad.{one_load}
 
 -- an answer is known by its numbers: an accepted load has nodes
-one_answer : (a b : LoadAnswer) → ((load_numbers a).number ≡ 0 → 0 < (load_numbers a).nodes) → load_numbers a ≡ load_numbers b → a ≡ b
-one_answer (Refused n) (Refused m) some e = ap Refused (ap (λ (x : LoadNumbers). x.number) e)
-one_answer (Refused n) (Accepted j k) some e = absurd (omega (arith, some (ap (λ (x : LoadNumbers). x.number) e)))
-one_answer (Accepted j k) (Refused n) some e =
+one_answer : (a b : Result Accepted ℕ) → ((load_numbers a).number ≡ 0 → 0 < (load_numbers a).nodes) → load_numbers a ≡ load_numbers b → a ≡ b
+one_answer (Err n) (Err m) some e = ap Err (ap (λ (x : LoadNumbers). x.number) e)
+one_answer (Err n) (Ok c) some e = absurd (omega (arith, some (ap (λ (x : LoadNumbers). x.number) e)))
+one_answer (Ok c) (Err n) some e =
     absurd (omega (arith, some refl, ap (λ (x : LoadNumbers). x.nodes) e))
-one_answer (Accepted j k) (Accepted i h) some e =
-    cc (ap (λ (x : LoadNumbers). x.nodes) e, ap (λ (x : LoadNumbers). x.exports) e)
+one_answer (Ok c) (Ok d) some e =
+    let p : c.nodes ≡ d.nodes = ap (λ (x : LoadNumbers). x.nodes) e in
+    let q : c.exports ≡ d.exports = ap (λ (x : LoadNumbers). x.exports) e in
+    λ t. Ok (record { nodes = p t; exports = q t })
 
 pub only_load : OnlyLoad
 only_load call exactly keeps leaves file words base exports =

@@ -5,7 +5,7 @@ use mathlib.Core.Path.{◌≡◌, refl, ap, ap₂, sym, ◌∙◌}
 use mathlib.Core.List.{List}
 use mathlib.Core.Logic.{◌⊎◌, inl, inr}
 use lib.IntN.{ℤ}
-use Rattle.plain.specs.declared.PlainAnswer.{PlainAnswer}
+use Rattle.plain.specs.Answer.{PlainAnswer}
 use Rattle.plain.specs.Run.{Played, played, plain_run}
 use Rattle.plain.specs.Meaning.{PlainCall, Shown, shown, PlainIsRun}
 use Rattle.plain.proofs.PlainIsRun.{plain_is_run}

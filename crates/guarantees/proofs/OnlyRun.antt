@@ -6,13 +6,13 @@ use mathlib.Core.List.{List, [], ◌++◌}
 use native.Mathlib.Omega.{arith}
 use lib.ListN.{length, drop, length-append}
 use lib.IntN.{ℤ}
+use Rattle.std.specs.Prelude.{Err}
 use Rattle.calculus.specs.Tree.{Tree}
 use Rattle.calculus.specs.Rules.{TreeFrame}
 use Rattle.calculus.specs.Machine.{Outcome}
 use Rattle.frames.specs.Stand.{StandFrom}
 use Rattle.table.proofs.HoldsLaws.{from_kept, from_append, untouched_refl, untouched_kept}
 use Rattle.frames.proofs.SoundFrames.{standing_sound}
-use Rattle.engine.specs.declared.RunAnswer.TheVariants.{Refused}
 use Rattle.engine.specs.Run.{Ran, ran, run_from}
 use Rattle.engine.specs.declared.From.{From}
 use Rattle.engine.specs.Answer.{RunNumbers}
@@ -84,8 +84,8 @@ module _ (from : From) (call : RunCall) (refuses : RefusedFrom from call) (simul
   other = call w base f x used fuel j
 
   -- both are refused
-  alike : (n : ℕ) (r : Ran) → RefusedWith n w j r → SameCall w j used base r (ran w j (Refused n))
-  alike n (ran v k a) (e, p, q) = rw (p, q) (both_refused {a = a} {a' = Refused n} e refl)
+  alike : (n : ℕ) (r : Ran) → RefusedWith n w j r → SameCall w j used base r (ran w j (Err n))
+  alike n (ran v k a) (e, p, q) = rw (p, q) (both_refused {a = a} {a' = Err n} e refl)
 
   -- both are let start
   begun : Begins from w j base f x used fuel → SameCall w j used base other (run_from from w base f x used fuel j)

@@ -5,7 +5,7 @@ use mathlib.Core.List.{List, ◌++◌}
 use lib.ListN.{length}
 use lib.IntN.{ℤ, pos}
 use Rattle.table.proofs.BaseLaws.{from_after}
-use Rattle.plain.specs.declared.PlainAnswer.{PlainAnswer}
+use Rattle.plain.specs.Answer.{PlainAnswer}
 use Rattle.plain.specs.Run.{Played, played, plain_tail, played_with, plain_run}
 use Rattle.guarantees.specs.Plain.{PlainBlind}
 

@@ -20,7 +20,6 @@ use Rattle.table.specs.Holds.{Holds}
 use Rattle.table.proofs.HoldsLaws.{one_tree}
 use Rattle.engine.specs.declared.From.TheVariants.{Scratch}
 use Rattle.engine.specs.Answer as run
-use Rattle.plain.specs.Answer.{PlainNumbers}
 use Rattle.plain.specs.Run.{plain_run}
 use Rattle.plain.specs.Meaning.{Shown, shown, telling, of_run}
 use Rattle.plain.proofs.PlainIsRun.{plain_is_run}

@@ -5,10 +5,11 @@ use mathlib.Core.List.{List, []}
 use mathlib.Core.Logic.{◌⊎◌, inl, ⊎_elim}
 use native.Mathlib.Omega.{arith}
 use lib.IntN.{ℤ}
+use Rattle.std.specs.Prelude.{Err, Ok}
 use Rattle.engine.specs.declared.From.TheVariants.{Scratch}
-use Rattle.engine.specs.declared.RunAnswer.TheVariants as run
+use Rattle.engine.specs.declared.Ending.TheVariants as run
 use Rattle.engine.specs.Run.{Ran, ran, run_from}
-use Rattle.plain.specs.declared.PlainAnswer.TheVariants.{Refused, Done, Stopped}
+use Rattle.plain.specs.Answer.{PlainAnswer}
 use Rattle.plain.specs.Run.{Played, played, plain_run}
 use Rattle.plain.proofs.Sim.{plain_of}
 use Rattle.plain.proofs.PlainIsRun.{plain_same}
@@ -18,25 +19,27 @@ use Rattle.guarantees.specs.Plain.{TooDeep}
 use Rattle.guarantees.proofs.PlainTwin.{lent, lent_room, deep_or_not}
 use Rattle.guarantees.proofs.Verdict.{Ended, Verdict, out, misplaced, damaged, at_last, started, Judged, verdict}
 
--- the answer is done, or a stop with a stop's number
+-- the answer is an ending
+abbrev GoesAs : PlainAnswer → Type 0
+GoesAs (Err n) = ⊥
+GoesAs (Ok e) = Unit {0}
+
 abbrev pub Goes : Played → Type 0
-Goes (played w (Refused n)) = ⊥
-Goes (played w (Done slot steps used)) = Unit {0}
-Goes (played w (Stopped n steps used)) = (31 ≤ n) × (n ≤ 33)
+Goes (played w a) = GoesAs a
 
 goes_of : (r : Ran) → Ended r → Goes (plain_of r)
-goes_of (ran w j (run.Refused n)) h = h
-goes_of (ran w j (run.Done slot steps used)) h = h
-goes_of (ran w j (run.Stopped n f x steps used waiting)) h = h
+goes_of (ran w j (Err n)) h = h
+goes_of (ran w j (Ok (run.Done slot steps used))) h = h
+goes_of (ran w j (Ok (run.Stopped why f x steps used waiting))) h = h
 
-deep_of_lem : (w : List ℕ) (r : Ran) → Ended r → deep_of w r ≡ played w (Refused 49)
-deep_of_lem w (ran v j (run.Refused n)) h = absurd h
-deep_of_lem w (ran v j (run.Done slot steps used)) h = refl
-deep_of_lem w (ran v j (run.Stopped n f x steps used waiting)) h = refl
+deep_of_lem : (w : List ℕ) (r : Ran) → Ended r → deep_of w r ≡ played w (Err 49)
+deep_of_lem w (ran v j (Err n)) h = absurd h
+deep_of_lem w (ran v j (Ok (run.Done slot steps used))) h = refl
+deep_of_lem w (ran v j (Ok (run.Stopped why f x steps used waiting))) h = refl
 
 abbrev pub PlainJudged : List ℕ → ℤ → ℤ → ℤ → ℕ → ℕ → ℕ → Played → Type 0
 PlainJudged w base f x used fuel places =
-    Verdict (λ (n : ℕ). played w (Refused n)) 49 Goes (OutOfTable w base used) (Misplaced used f ⊎ Misplaced used x) (Damaged w base used)
+    Verdict (λ (n : ℕ). played w (Err n)) 49 Goes (OutOfTable w base used) (Misplaced used f ⊎ Misplaced used x) (Damaged w base used)
     (TooDeep fuel places)
 
 module _ (w : List ℕ) (base f x : ℤ) (used fuel places : ℕ) where

@@ -8,8 +8,7 @@ use lib.IntN.{ℤ}
 use Rattle.engine.specs.declared.From.TheVariants.{Scratch}
 use Rattle.engine.specs.Answer as run
 use Rattle.engine.specs.Run.{Ran, ran, run_from}
-use Rattle.plain.specs.declared.PlainAnswer.{PlainAnswer}
-use Rattle.plain.specs.Answer.{plain_numbers}
+use Rattle.plain.specs.Answer.{PlainAnswer, plain_numbers}
 use Rattle.plain.specs.Run.{Played, played, plain_run}
 use Rattle.plain.specs.Meaning.{Shown, shown, of_run}
 use Rattle.plain.proofs.PlainIsRun.{plain_is_run}

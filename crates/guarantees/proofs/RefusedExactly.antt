@@ -5,7 +5,7 @@ use mathlib.Core.Bool.{false, false≢true}
 use mathlib.Core.List.{List}
 use mathlib.Core.Logic.{◌↔◌}
 use native.Mathlib.Omega.{arith}
-use Rattle.engine.specs.declared.RunAnswer.TheVariants.{Refused}
+use Rattle.std.specs.Prelude.{Err}
 use Rattle.engine.specs.Run.{Ran, ran, run_from}
 use Rattle.engine.specs.Answer.{RunNumbers}
 use Rattle.guarantees.specs.Run.{started as let-start, RefusedWith, InOrder, RefusedExactly}
@@ -61,7 +61,7 @@ module _ {R : Type 0} (refused : ℕ → R) (last : ℕ) (Goes : R → Type 0) (
 -- ---- of a run or a carry-on
 
 module _ (w j : List ℕ) where
-  number_of : (n m : ℕ) → RefusedWith n w j (ran w j (Refused m)) → m ≡ n
+  number_of : (n m : ℕ) → RefusedWith n w j (ran w j (Err m)) → m ≡ n
   number_of n m e = ap (λ (a : RunNumbers). a.number) e.0
 
   not_started : (n : ℕ) → let-start n ≡ false → (r : Ran) → Ended r → RefusedWith n w j r → ⊥
@@ -71,5 +71,5 @@ module _ (w j : List ℕ) where
 
 pub refused_exactly : RefusedExactly run_from
 refused_exactly from w j base f x used fuel =
-    in_order (λ (n : ℕ). ran w j (Refused n)) 40 Ended (λ n r. RefusedWith n w j r) (omega arith) refl (λ n. (refl, refl, refl))
+    in_order (λ (n : ℕ). ran w j (Err n)) 40 Ended (λ n r. RefusedWith n w j r) (omega arith) refl (λ n. (refl, refl, refl))
     (number_of w j) (not_started w j) _ _ _ _ (verdict from w j base f x used fuel)

@@ -1,10 +1,10 @@
 -- How large the tables have to be: what bounds the reference machine bounds the run.
-use Prim.Native.Nat.{ℕ, ◌+◌, ◌-◌, ◌≤◌, ◌<◌}
+use Prim.Native.Nat.{ℕ, ◌+◌, ◌-◌, ◌≤◌}
 use mathlib.Core.Path.{◌≡◌, refl, sym, ap, ◌∙◌}
 use mathlib.Core.List.{List, reverse}
 use native.Mathlib.Omega.{arith}
 use lib.ListN.{length, drop, length-reverse}
-use lib.IntN.{ℤ, pos}
+use lib.IntN.{pos}
 use Rattle.calculus.specs.Tree.{Tree}
 use Rattle.calculus.specs.Rules.{TreeFrame}
 use Rattle.calculus.specs.Machine.{Stop, out_of_slots, out_of_places, stop_number, stopped, Outcome}

@@ -20,13 +20,12 @@ use Rattle.table.proofs.SlotLaws.{used_in}
 use Rattle.table.proofs.SoundLaws.{slots_sound}
 use Rattle.frames.proofs.FrameLaws.{frame_room_long, length_cleared, zero_cleared}
 use Rattle.table.proofs.HoldsLaws.{held_below}
-use Rattle.engine.specs.declared.RunAnswer.{RunAnswer}
 use Rattle.engine.specs.Admission.{slot_rows}
 use Rattle.engine.specs.Run.{Ran, ran, drive, jobs_from, state_from, run_tail, ran_with, run_from}
 use Rattle.engine.proofs.AdmissionLaws.{slots_clear}
 use Rattle.engine.specs.declared.From.{From}
 use Rattle.engine.specs.declared.From.TheVariants.{Scratch, Stop}
-use Rattle.engine.specs.Answer.{run_numbers}
+use Rattle.engine.specs.Answer.{RunAnswer, run_numbers}
 use Rattle.guarantees.specs.Agrees.{Agrees}
 use Rattle.guarantees.specs.Run.{steps_before, TooMany, JobsDamaged, Waiting, later, RunSimulates}
 use Rattle.guarantees.proofs.Calls.{go_started, run_behind}

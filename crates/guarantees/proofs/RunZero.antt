@@ -9,10 +9,9 @@ use Rattle.calculus.specs.Tree.{leaf}
 use Rattle.calculus.specs.Machine.{Outcome}
 use Rattle.table.specs.Slots.{room}
 use Rattle.table.specs.Holds.{Holds, holds_leaf}
-use Rattle.engine.specs.declared.RunAnswer.{RunAnswer}
 use Rattle.engine.specs.Run.{ran, run_from}
 use Rattle.engine.specs.declared.From.{From}
-use Rattle.engine.specs.Answer.{RunNumbers, run_numbers}
+use Rattle.engine.specs.Answer.{RunAnswer, RunNumbers, run_numbers}
 use Rattle.guarantees.specs.Agrees.{Agrees, agrees_done, agrees_stop}
 use Rattle.guarantees.specs.Run.{started}
 use Rattle.guarantees.specs.Demands.{ZeroIsLeaf}

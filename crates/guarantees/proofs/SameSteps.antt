@@ -23,9 +23,8 @@ use Rattle.table.proofs.SoundLaws.{slot_bounds}
 use Rattle.frames.proofs.FrameLaws.{frame_room_long, length_put_frame, length_drop, length_cleared}
 use Rattle.frames.proofs.FrameLaws.{frame_here, frame_other, frame_dropped}
 use Rattle.stepping.specs.declared.State.{State}
-use Rattle.stepping.specs.declared.Status.{Status}
-use Rattle.stepping.specs.declared.Status.TheVariants.{Going, Done, OutOfSlots, OutOfPlaces}
 use Rattle.stepping.specs.declared.Turn.{Turn}
+use Rattle.stepping.specs.declared.Turn.TheVariants.{Going, Done, Stopped}
 use Rattle.stepping.specs.Rules.{SlotAction, Make, Give, Go, Push, on_argument, on_fork, on_function, slot_rule}
 use Rattle.stepping.specs.Step.{Stepped, at, beside, meet_frame, meet, carry, step}
 use Rattle.stepping.specs.Ready.{Runnable, Waits}
@@ -40,20 +39,15 @@ pub record SameFrames (j j' : List ℕ) (waiting : ℕ) : Type 0 where
   pub frames : (k : ℕ) → k < waiting → frame_at j k ≡ frame_at j' k
   pub rooms : frame_room j ≤ frame_room j'
 
--- a step of the first that stopped says nothing of the second's
-abbrev pub Unless : Status → Type 0 → Type 0
-Unless Going A = A
-Unless Done A = A
-Unless OutOfSlots A = Unit {0}
-Unless OutOfPlaces A = Unit {0}
-
--- the same turn, and tables that have the same used slots and waiting frames
-abbrev pub Same : List ℕ → List ℕ → Turn → Stepped → Type 0
-Same w j t (at w' j' t') =
-    (t ≡ t') × SameWords w w' t.state.used × SameFrames j j' t.state.waiting
+-- the same turn, and tables that have the same used slots and waiting frames; a step of the first that stopped says nothing of
+-- the second's
+abbrev pub StaysAs : List ℕ → List ℕ → Turn → Stepped → Type 0
+StaysAs w j (Going s) (at w' j' t) = (t ≡ Going s) × SameWords w w' s.used × SameFrames j j' s.waiting
+StaysAs w j (Done a used) (at w' j' t) = (t ≡ Done a used) × SameWords w w' used
+StaysAs w j (Stopped why) c = Unit {0}
 
 abbrev pub Stays : Stepped → Stepped → Type 0
-Stays (at w j t) c = Unless t.status (Same w j t c)
+Stays (at w j t) c = StaysAs w j t c
 
 -- ---- the rules
 
@@ -152,7 +146,7 @@ module _ (j j' w w' : List ℕ) (t : Slot) (used : ℕ) (words : SameWords w w' 
   meets : (waiting : ℕ) → SameFrames j j' waiting → waiting ≤ frame_room j
       → Stays (beside w (meet j t used waiting)) (beside w' (meet j' t used waiting))
   unfolding meet
-  meets zero same h = (refl, words, same)
+  meets zero same h = (refl, words)
   meets (suc k) same h =
       rw (← same.frames k (omega arith)) (frame_meets k (frame_at j k) same (omega arith))
 

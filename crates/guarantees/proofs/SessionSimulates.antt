@@ -17,11 +17,10 @@ use Rattle.table.specs.Holds.{Holds}
 use Rattle.table.proofs.Tests.{by_test}
 use Rattle.table.proofs.SlotLaws.{room_long}
 use Rattle.table.proofs.HoldsLaws.{held_below, from_kept, from_append, untouched_kept}
-use Rattle.engine.specs.declared.RunAnswer.{RunAnswer}
 use Rattle.engine.specs.Run.{Ran, ran}
 use Rattle.engine.specs.declared.From.{From}
 use Rattle.engine.specs.declared.From.TheVariants.{Scratch, Stop}
-use Rattle.engine.specs.Answer.{RunNumbers, run_numbers}
+use Rattle.engine.specs.Answer.{RunAnswer, RunNumbers, run_numbers}
 use Rattle.guarantees.specs.Agrees.{Leaves, Agrees, agrees_done, agrees_stop}
 use Rattle.guarantees.specs.Run.{RunCall, Calls, TooMany, SimulatesFrom, RunSimulates, RefusedFrom, RefusedExactly, RefusedWith, started}
 use Rattle.guarantees.specs.Run.{OutOfTable, base_past, none_used, above_room, Misplaced, Damaged}

@@ -8,12 +8,13 @@ use native.Mathlib.Numerals.{add-one}
 use native.Mathlib.Decide.{dec_lt}
 use borrow.Author.Tests.{lt-ltb, le-ltb}
 use lib.ListN.{length, length-append, length-reverse}
-use lib.IntN.{pos}
+use Rattle.std.specs.Prelude.{Ok}
 use Rattle.calculus.specs.Tree.{Tree, leaf, stem, fork}
 use Rattle.calculus.specs.Rules.{TreeFrame, operand, argument, function, TreeAction as Asked, make, give, go, push}
 use Rattle.calculus.specs.Rules as trees
 use Rattle.calculus.specs.Machine.{Stop, out_of_fuel, out_of_slots, out_of_places, stop_number, ended, stopped, Outcome}
 use Rattle.calculus.specs.Machine as machine
+use Rattle.table.specs.declared.slots.Slot.{Slot}
 use Rattle.table.specs.declared.slots.Node.{Node}
 use Rattle.table.specs.declared.slots.Node.TheVariants.{Leaf, Stem, Fork}
 use Rattle.frames.specs.declared.Frame.{Frame as Job}
@@ -32,14 +33,16 @@ use Rattle.table.proofs.HoldsLaws.{held_below, leaf_view, stem_view, fork_view, 
 use Rattle.table.proofs.HoldsLaws.{zero_leaf, from_kept, from_append, untouched_refl, untouched_put, untouched_trans}
 use Rattle.table.proofs.HoldsLaws.{untouched_kept}
 use Rattle.stepping.specs.declared.State.{State}
-use Rattle.stepping.specs.declared.Status.TheVariants.{Going, Done as IsDone, OutOfSlots, OutOfPlaces}
-use Rattle.engine.specs.declared.RunAnswer.TheVariants.{Done, Stopped}
+use Rattle.stepping.specs.declared.Turn.TheVariants.{Going, Done as IsDone, Stopped as IsStopped}
+use Rattle.stepping.specs.declared.stops.Stop.{Stop as Why}
+use Rattle.stepping.specs.declared.stops.Stop.TheVariants as why
+use Rattle.stepping.specs.Stops as stops
 use Rattle.stepping.specs.Rules.{SlotAction, Make, Give, Go, Push, slot_rule, on_function, on_fork, on_argument}
 use Rattle.stepping.specs.Step.{Stepped, at, beside, meet_frame, meet, carry, step}
 use Rattle.engine.specs.Run.{Ran, ran, resume, drive}
 use Rattle.engine.specs.Run as engine
 use Rattle.engine.specs.Answer.{RunNumbers, run_numbers}
-use Rattle.guarantees.specs.Agrees.{Leaves, Agrees, agrees_done, agrees_stop}
+use Rattle.guarantees.specs.Agrees.{Leaves, done_with, stopped_with, Agrees, agrees_done, agrees_stop}
 use Rattle.guarantees.specs.Run.{later}
 
 -- ---- the waiting frames
@@ -201,13 +204,12 @@ module _ (w : List ℕ) (n : ℕ) where
 pub data Turns (w j : List ℕ) (s : State) : Stepped → machine.MachineTurn → Type 0 where
   turns_going : {v k : List ℕ} {next : State} {made : List Tree} {p : machine.MachineState}
       → Grown w s.used v next.used made → length k ≡ length j → Sim v k next p
-      → Turns w j s (at v k (record { status = Going; state = next })) (machine.going made p)
-  turns_done : {v k : List ℕ} {next : State} {made : List Tree} {t : Tree}
-      → next.used ≡ s.used + length made → Leaves w s.used j v next.used k made 0
-      → Holds v next.used next.f.0 t
-      → Turns w j s (at v k (record { status = IsDone; state = next })) (machine.done made t)
-  turns_no_slot : Turns w j s (at w j (record { status = OutOfSlots; state = s })) (machine.stop out_of_slots)
-  turns_no_place : Turns w j s (at w j (record { status = OutOfPlaces; state = s })) (machine.stop out_of_places)
+      → Turns w j s (at v k (Going next)) (machine.going made p)
+  turns_done : {v k : List ℕ} {a : Slot} {used : ℕ} {made : List Tree} {t : Tree}
+      → used ≡ s.used + length made → Leaves w s.used j v used k made 0 → Holds v used a.0 t
+      → Turns w j s (at v k (IsDone a used)) (machine.done made t)
+  turns_no_slot : Turns w j s (at w j (IsStopped why.OutOfSlots)) (machine.stop out_of_slots)
+  turns_no_place : Turns w j s (at w j (IsStopped why.OutOfPlaces)) (machine.stop out_of_places)
 
 -- a frame at place k, the last, is written or goes, and slot f is to be applied to slot x
 module _ {w : List ℕ} {n f x : ℕ} {ft xt : Tree} (good : SlotsPass w n) (hf : Holds w n f ft) (hx : Holds w n x xt)
@@ -322,24 +324,25 @@ Comes w n j (ran v k a) o = Agrees w n j v k (run_numbers a) o
 -- the two ways to agree, for a used count and a number of frames that are known to be the right ones
 module _ {w j v k : List ℕ} {n m steps : ℕ} {made : List Tree} (e : m ≡ n + length made) where
   done_agrees : {slot : ℕ} {t : Tree} → Holds v m slot t → Leaves w n j v m k made 0 →
-      Agrees w n j v k (run_numbers (Done (pos slot) steps m)) (record { ending = ended t; steps = steps; made = made })
+      Agrees w n j v k (done_with slot steps m) (record { ending = ended t; steps = steps; made = made })
   done_agrees h l = rw e (agrees_done (rw e at h) (rw e at l))
 
   stop_agrees : {f x waiting : ℕ} {why : Stop} {ft xt : Tree} {frames : List TreeFrame} → waiting ≡ length frames →
       Holds v m f ft → Holds v m x xt → StandFrom v m k 0 frames → Leaves w n j v m k made waiting →
-      Agrees w n j v k (run_numbers (Stopped (stop_number why) (pos f) (pos x) steps m waiting))
+      Agrees w n j v k (stopped_with (stop_number why) f x steps m waiting)
       (record { ending = stopped why ft xt frames; steps = steps; made = made })
   stop_agrees d hf hx stand l = rw (e, d) (agrees_stop (rw e at hf) (rw e at hx) (rw e at stand) (rw (e, d) at l))
 
--- a run that stops here
-stops : (w j : List ℕ) (s : State) (p : machine.MachineState) → Sim w j s p → (why : Stop) (k : ℕ) →
-    Comes w s.used j (ran w j (engine.stopped (stop_number why) s k)) (later k (machine.halted why p))
-stops w j s p sim why k =
+-- a run that stops here, with the number of the machine's stop
+stops_here : (w j : List ℕ) (s : State) (p : machine.MachineState) → Sim w j s p → (mine : Why) (why : Stop) →
+    stops.stops_with mine ≡ stop_number why → (k : ℕ) →
+    Comes w s.used j (ran w j (Ok (engine.stopped mine s k))) (later k (machine.halted why p))
+stops_here w j s p sim mine why e k =
     let n = s.used in
     let d : s.waiting ≡ length (reverse p.frames)
     = omega (arith, length-reverse p.frames, frames_count w n j s.waiting p.frames sim.frames)
     in
-    rw (add-zero k)
+    rw (add-zero k, e)
     (stop_agrees (omega arith) d sim.f sim.x (frames_turned w n j s.waiting p.frames sim.frames)
     (leaves_here j (grown_none w n) sim.slots (omega (arith, held_below sim.f)) sim.fits sim.above))
 
@@ -398,13 +401,13 @@ module _ (fuel : ℕ) (drives : DriveSimulates fuel) (k : ℕ) (w j : List ℕ) 
       (comes_on w j v i s.used next.used made grown long (drive fuel (suc k) v i next) (later (suc k) o)
       (drives (suc k) v i next q sim'))
   resumes c t (turns_done e l h) = rw (← add-one k) (done_agrees e h l)
-  resumes c t turns_no_slot = stops w j s p sim out_of_slots k
-  resumes c t turns_no_place = stops w j s p sim out_of_places k
+  resumes c t turns_no_slot = stops_here w j s p sim why.OutOfSlots out_of_slots refl k
+  resumes c t turns_no_place = stops_here w j s p sim why.OutOfPlaces out_of_places refl k
 
 -- a run on the two tables is the machine's
 pub drive_simulates : (fuel : ℕ) → DriveSimulates fuel
 unfolding drive machine.run
-drive_simulates zero k w j s p sim = stops w j s p sim out_of_fuel k
+drive_simulates zero k w j s p sim = stops_here w j s p sim why.OutOfFuel out_of_fuel refl k
 drive_simulates (suc fuel) k w j s p sim =
     resumes fuel (drive_simulates fuel) k w j s p sim (step w j s)
     (machine.machine_step (room w - s.used) (frame_room j) p) (steps w j s p sim)

@@ -13,12 +13,11 @@ use Rattle.calculus.specs.Machine.{Outcome}
 use Rattle.table.specs.Slots.{slot}
 use Rattle.table.proofs.SoundLaws.{slots_sound}
 use Rattle.frames.proofs.SoundFrames.{standing_sound}
-use Rattle.engine.specs.declared.RunAnswer.{RunAnswer}
 use Rattle.engine.specs.Admission.{max_steps}
 use Rattle.engine.specs.Run.{Ran, ran, drive, state_from, ran_with, run_from}
 use Rattle.engine.specs.declared.From.{From}
 use Rattle.engine.specs.declared.From.TheVariants.{Stop}
-use Rattle.engine.specs.Answer.{RunNumbers, run_numbers}
+use Rattle.engine.specs.Answer.{RunAnswer, RunNumbers, run_numbers}
 use Rattle.guarantees.specs.Agrees.{Agrees, agrees_done, agrees_stop}
 use Rattle.guarantees.specs.Run.{started as let-start, RefusedWith}
 use Rattle.guarantees.specs.Onward.{numbers_of, MayGoOn, StopsCarryOn}

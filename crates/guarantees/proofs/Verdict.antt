@@ -9,6 +9,7 @@ use lib.ListN.{length, take, drop, take-append-drop}
 use lib.Dec.{ltb}
 use lib.IntN.{ℤ, pos, negsuc}
 use borrow.Author.Tests.{ltb-true, ltb-false, le-leb, not-true, not-false}
+use Rattle.std.specs.Prelude.{Ok, Err}
 use Rattle.refusals.specs.Refusals.{Row, ◌when◌, answer, unless_refused}
 use Rattle.refusals.proofs.Choice.{by_row}
 use Rattle.table.specs.Slots.{is_used, named_slot}
@@ -19,56 +20,59 @@ use Rattle.frames.specs.SoundFrames.{frames_sound}
 use Rattle.table.proofs.SoundLaws.{each_sound_lem, sound_breaks}
 use Rattle.frames.proofs.SoundFrames.{frames_sound_lem}
 use Rattle.stepping.specs.declared.State.{State}
-use Rattle.stepping.specs.declared.Status.{Status}
-use Rattle.stepping.specs.declared.Status.TheVariants.{Going, Done as IsDone, OutOfSlots, OutOfPlaces}
-use Rattle.engine.specs.declared.RunAnswer.TheVariants.{Refused, Done, Stopped}
+use Rattle.stepping.specs.declared.Turn.{Turn}
+use Rattle.stepping.specs.declared.Turn.TheVariants.{Going, Done as IsDone, Stopped as IsStopped}
+use Rattle.stepping.specs.Stops.{stops_with}
+use Rattle.stepping.proofs.StopNumbers.{stop_range}
+use Rattle.engine.specs.declared.Ending.TheVariants.{Done, Stopped}
 use Rattle.stepping.specs.Step.{Stepped, at, step}
 use Rattle.engine.specs.Admission.{out_of_room, dangling, unsound, slot_rows, frames_unsound, max_steps, steps_overflow, stop_rows, from_rows, run_rows}
 use Rattle.engine.specs.Run.{Ran, ran, resume_as, resume, drive, steps_of, jobs_from, state_from, run_tail, ran_with, run_from}
 use Rattle.engine.proofs.AdmissionLaws.{out_of_room_lem, in_room, some_dangling, both_placed}
 use Rattle.engine.specs.declared.From.{From}
 use Rattle.engine.specs.declared.From.TheVariants.{Scratch, Stop}
-use Rattle.engine.specs.Answer.{run_numbers}
+use Rattle.engine.specs.Answer.{RunAnswer, run_numbers}
 use Rattle.guarantees.specs.Run.{started as let-start, Listed}
 use Rattle.guarantees.specs.Run.{OutOfTable, base_negative, base_past, none_used, above_room}
 use Rattle.guarantees.specs.Run.{Misplaced, negative, not_used, Damaged, JobsDamaged, TooMany}
 
 -- ---- a run that starts is not refused
 
--- the answer is done, or a stop with a stop's number
+-- the answer is an ending
+abbrev EndedAs : RunAnswer → Type 0
+EndedAs (Err n) = ⊥
+EndedAs (Ok e) = Unit {0}
+
 abbrev pub Ended : Ran → Type 0
-Ended (ran w j (Refused n)) = ⊥
-Ended (ran w j (Done slot steps used)) = Unit {0}
-Ended (ran w j (Stopped n f x steps used waiting)) = (31 ≤ n) × (n ≤ 33)
+Ended (ran w j a) = EndedAs a
 
 -- its numbers are those of a run that was let start
 abbrev pub Unrefused : Ran → Type 0
 Unrefused (ran w j a) = let-start (run_numbers a).number ≡ true
 
 pub unrefused : (r : Ran) → Ended r → Unrefused r
-unrefused (ran w j (Refused n)) h = absurd h
-unrefused (ran w j (Done slot steps used)) h = refl
-unrefused (ran w j (Stopped n f x steps used waiting)) h = rw (le-leb 31 n h.0, le-leb n 33 h.1, or-true)
+unrefused (ran w j (Err n)) h = absurd h
+unrefused (ran w j (Ok (Done slot steps used))) h = refl
+unrefused (ran w j (Ok (Stopped why f x steps used waiting))) h =
+    let (low, high) = stop_range why in
+    rw (le-leb 31 (stops_with why) low, le-leb (stops_with why) 33 high, or-true)
 
 behind_ended : (before : List ℕ) (r : Ran) → Ended r → Ended (ran_with before r)
-behind_ended before (ran w j (Refused n)) h = h
-behind_ended before (ran w j (Done slot steps used)) h = h
-behind_ended before (ran w j (Stopped n f x steps used waiting)) h = h
+behind_ended before (ran w j a) h = h
 
 module _ (rest : ℕ → List ℕ → List ℕ → State → Ran)
     (goes : (k : ℕ) (w j : List ℕ) (s : State) → Ended (rest k w j s)) (k : ℕ) (s : State) where
-  status_ended : (w j : List ℕ) (next : State) (t : Status) → Ended (resume_as rest k s w j next t)
-  status_ended w j next Going = goes (suc k) w j next
-  status_ended w j next IsDone = tt
-  status_ended w j next OutOfSlots = (omega arith, omega arith)
-  status_ended w j next OutOfPlaces = (omega arith, omega arith)
+  turn_ended : (w j : List ℕ) (t : Turn) → Ended (resume_as rest k s w j t)
+  turn_ended w j (Going next) = goes (suc k) w j next
+  turn_ended w j (IsDone a used) = tt
+  turn_ended w j (IsStopped why) = tt
 
   resume_ended : (t : Stepped) → Ended (resume rest k s t)
-  resume_ended (at w j t) = status_ended w j t.state t.status
+  resume_ended (at w j t) = turn_ended w j t
 
 pub drive_ended : (fuel k : ℕ) (w j : List ℕ) (s : State) → Ended (drive fuel k w j s)
 unfolding drive
-drive_ended zero k w j s = (omega arith, omega arith)
+drive_ended zero k w j s = tt
 drive_ended (suc n) k w j s = resume_ended (drive n) (drive_ended n) k s (step w j s)
 
 -- ---- which slots are misplaced
@@ -119,7 +123,7 @@ listed_apart l (inr (inr (inr h))) s e = omega (arith, s.1)
 
 -- of a run or a carry-on
 abbrev pub RunVerdict : List ℕ → List ℕ → Type 0 → Type 0 → Type 0 → Type 0 → Ran → Type 0
-RunVerdict w j = Verdict (λ (n : ℕ). ran w j (Refused n)) 40 Ended
+RunVerdict w j = Verdict (λ (n : ℕ). ran w j (Err n)) 40 Ended
 
 -- by its own reasons
 abbrev pub Judged : From → List ℕ → List ℕ → ℤ → ℤ → ℤ → ℕ → ℕ → Ran → Type 0
@@ -129,7 +133,7 @@ Judged from w j base f x used fuel =
 
 module _ (w j : List ℕ) (b : ℕ) (f x : ℤ) (used fuel : ℕ) where
   -- a refusal leaves the table whole
-  whole : (n : ℕ) → ran_with (take b w) (ran (drop b w) j (Refused n)) ≡ ran w j (Refused n)
+  whole : (n : ℕ) → ran_with (take b w) (ran (drop b w) j (Err n)) ≡ ran w j (Err n)
   whole n = rw (take-append-drop b w)
 
   -- the verdict on what is left of our part of the table
@@ -137,7 +141,7 @@ module _ (w j : List ℕ) (b : ℕ) (f x : ℤ) (used fuel : ℕ) where
   Judge from r = Judged from w j (pos b) f x used fuel (ran_with (take b w) r)
 
   -- a refusal by one of the rows
-  refused : (from : From) (n : ℕ) → Judged from w j (pos b) f x used fuel (ran w j (Refused n)) → Judge from (ran (drop b w) j (Refused n))
+  refused : (from : From) (n : ℕ) → Judged from w j (pos b) f x used fuel (ran w j (Err n)) → Judge from (ran (drop b w) j (Err n))
   refused from n v = rw (whole n) v
 
   -- what comes of the rows, and what passes them
@@ -145,13 +149,13 @@ module _ (w j : List ℕ) (b : ℕ) (f x : ℤ) (used fuel : ℕ) where
   passes from = drive fuel (steps_of from) (drop b w) (jobs_from from j) (state_from from (named_slot f) (named_slot x) used)
 
   abbrev Comes : From → List Row → Type 0
-  Comes from rows = Judge from (unless_refused (answer rows) (λ n. ran (drop b w) j (Refused n)) (passes from))
+  Comes from rows = Judge from (unless_refused (answer rows) (λ n. ran (drop b w) j (Err n)) (passes from))
 
   asks : (from : From) (n : ℕ) (t : Bool) (rows : List Row) → (n ≡ 0 → ⊥)
-      → (t ≡ true → Judged from w j (pos b) f x used fuel (ran w j (Refused n))) → (t ≡ false → Comes from rows)
+      → (t ≡ true → Judged from w j (pos b) f x used fuel (ran w j (Err n))) → (t ≡ false → Comes from rows)
       → Comes from ((n when t) ∷ rows)
   asks from n t rows z h k =
-      by_row (λ m. ran (drop b w) j (Refused m)) (passes from) (Judge from) n t rows z (λ e. refused from n (h e)) k
+      by_row (λ m. ran (drop b w) j (Err m)) (passes from) (Judge from) n t rows z (λ e. refused from n (h e)) k
 
   passes_ended : (from : From) → Ended (ran_with (take b w) (passes from))
   passes_ended from = behind_ended (take b w) (passes from) (drive_ended fuel (steps_of from) (drop b w) (jobs_from from j) _)

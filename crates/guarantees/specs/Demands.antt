@@ -1,18 +1,19 @@
 -- The studio's three demands, a field or a line for each of their sentences. That every public call ends, and checks
 -- everything itself, is said by the calls' contracts: they are equations for all inputs, with no `requires`. A run is one from scratch,
 -- by the run call, or one from a stop, by the carry-on call. A plain run is one by the plain engine's call.
-use Rattle.std.specs.Prelude.{ℕ, ◌≡◌, true, List, drop, ℤ, pos}
+use Rattle.std.specs.Prelude.{ℕ, ◌≡◌, true, List, drop, ℤ, pos, Result}
+use Rattle.loader.specs.declared.Accepted.{Accepted}
 use Rattle.calculus.specs.Tree.{leaf}
 use Rattle.calculus.specs.Laws.{StopNumbers}
 use Rattle.table.specs.Slots.{room, RoomIs}
 use Rattle.frames.specs.Frames.{JobRoomIs, JobWords}
 use Rattle.table.specs.Holds.{Holds}
-use Rattle.engine.specs.declared.RunAnswer.{RunAnswer}
 use Rattle.engine.specs.Run.{ran, run_from}
 use Rattle.engine.specs.declared.From.{From}
 use Rattle.engine.specs.Answer as engine
-use Rattle.plain.specs.declared.PlainAnswer.{PlainAnswer}
+use Rattle.engine.specs.Answer.{RunAnswer}
 use Rattle.plain.specs.Answer as plain
+use Rattle.plain.specs.Answer.{PlainAnswer}
 use Rattle.plain.specs.Run.{played, plain_run}
 use Rattle.plain.specs.Meaning.{PlainIsRun}
 use Rattle.bundle.specs.Checks.{refusal}
@@ -23,7 +24,6 @@ use Rattle.soundness.specs.ExportCalls.{NameByIndex, NameRefused, NameBytes, Nam
 use Rattle.soundness.specs.ExportCalls.{index, IndexByName, NoSuchName, EmptyName, IndexRefused}
 use Rattle.soundness.specs.FileMeaning.{BigEndian}
 use Rattle.soundness.specs.NodesMeaning.{ReadsChildren}
-use Rattle.loader.specs.declared.LoadAnswer.{LoadAnswer}
 use Rattle.loader.specs.Answer.{LoadNumbers, load_numbers}
 use Rattle.loader.specs.Load.{loaded, load}
 use Rattle.guarantees.specs.Run.{Calls, RunSimulates, started, RefusalKeeps, RefusedExactly, JobsSound, BaseBlind, DoneStays}
@@ -60,7 +60,7 @@ pub record Demand1 : Type 0 where
   pub run_blind : BaseBlind
   pub plain_blind : PlainBlind
   -- slot zero is the leaf after every accepted load and every run or plain run that was let start
-  pub load_zero : (file words words' : List ℕ) (base : ℤ) (exports exports' : List ℕ) (a : LoadAnswer) →
+  pub load_zero : (file words words' : List ℕ) (base : ℤ) (exports exports' : List ℕ) (a : Result Accepted ℕ) →
       load file words base exports ≡ loaded words' exports' a → (load_numbers a).number ≡ 0 → ZeroIsLeaf base words'
   pub run_zero : (from : From) (words words' jobs jobs' : List ℕ) (base f x : ℤ) (used fuel : ℕ) (a : RunAnswer) →
       run_from from words base f x used fuel jobs ≡ ran words' jobs' a → started (engine.run_numbers a).number ≡ true →

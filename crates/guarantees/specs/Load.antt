@@ -1,5 +1,6 @@
 -- What the load call guarantees. The proofs are in proofs/, a file for each statement.
-use Rattle.std.specs.Prelude.{ℕ, ◌≤◌, ◌<◌, ◌≡◌, List, [], ◌++◌, map, ◌↔◌, length, get_or, take, drop, ℤ, pos, negsuc}
+use Rattle.std.specs.Prelude.{ℕ, ◌≤◌, ◌<◌, ◌≡◌, List, [], ◌++◌, map, ◌↔◌, length, get_or, take, drop, ℤ, pos, negsuc, Result}
+use Rattle.loader.specs.declared.Accepted.{Accepted}
 use Rattle.calculus.specs.Tree.{Tree}
 use Rattle.table.specs.Slots.{room}
 use Rattle.table.specs.Holds.{Holds, Untouched}
@@ -10,7 +11,6 @@ use Rattle.soundness.specs.Sound.{Sound}
 use Rattle.soundness.specs.ManifestGrammar.{Contents}
 use Rattle.soundness.specs.Applies.{HasManifest, HasNodes, Applies, Smallest}
 use Rattle.soundness.specs.Skipped.{ReadAlike}
-use Rattle.loader.specs.declared.LoadAnswer.{LoadAnswer}
 use Rattle.loader.specs.Answer.{LoadNumbers, load_numbers}
 use Rattle.loader.specs.Load.{Loaded, loaded, load}
 use Rattle.guarantees.specs.Order.{Order, TreesOf}
@@ -60,7 +60,7 @@ LoadNumberExactly call =
 -- A refusal answers a number of the list, 1 to 22, with every other number 0, and changes no word.
 abbrev pub LoadRefusalKeeps : LoadCall → Type 0
 LoadRefusalKeeps call =
-    (file words words' : List ℕ) (base : ℤ) (exports exports' : List ℕ) (a : LoadAnswer) →
+    (file words words' : List ℕ) (base : ℤ) (exports exports' : List ℕ) (a : Result Accepted ℕ) →
     call file words base exports ≡ loaded words' exports' a → ((load_numbers a).number ≡ 0 → ⊥) →
     (n : ℕ) × (n ≤ 22) × (load_numbers a ≡ record { number = n; nodes = 0; exports = 0 })
     × (words' ≡ words) × (exports' ≡ exports)
@@ -104,7 +104,7 @@ pub record Loads (file words : List ℕ) (base : ℤ) (exports words' exports' :
 -- what an accepted load leaves
 abbrev pub LoadLeaves : LoadCall → Type 0
 LoadLeaves call =
-    (file words words' : List ℕ) (base : ℤ) (exports exports' : List ℕ) (a : LoadAnswer) →
+    (file words words' : List ℕ) (base : ℤ) (exports exports' : List ℕ) (a : Result Accepted ℕ) →
     call file words base exports ≡ loaded words' exports' a → (load_numbers a).number ≡ 0 →
     Loads file words base exports words' exports' (load_numbers a)
 
@@ -133,7 +133,7 @@ OnlyLoad =
 abbrev pub LoadBlind : Type 0
 LoadBlind =
     (file before before' w exports : List ℕ) →
-    (v : List ℕ) × (exports' : List ℕ) × (a : LoadAnswer) ×
+    (v : List ℕ) × (exports' : List ℕ) × (a : Result Accepted ℕ) ×
     (load file (before ++ w) (pos (length before)) exports ≡ loaded (before ++ v) exports' a) ×
     (load file (before' ++ w) (pos (length before')) exports ≡ loaded (before' ++ v) exports' a)
 

@@ -5,10 +5,9 @@ use Rattle.calculus.specs.Rules.{TreeFrame}
 use Rattle.table.specs.Holds.{Holds, HoldsFrom, Untouched}
 use Rattle.frames.specs.Stand.{StandFrom}
 use Rattle.frames.specs.SoundFrames.{SoundJobs}
-use Rattle.engine.specs.declared.RunAnswer.{RunAnswer}
 use Rattle.engine.specs.Run.{Ran, ran, run_from}
 use Rattle.engine.specs.declared.From.{From}
-use Rattle.engine.specs.Answer.{RunNumbers, run_numbers}
+use Rattle.engine.specs.Answer.{RunAnswer, RunNumbers, run_numbers}
 use Rattle.guarantees.specs.Agrees.{done_with, stopped_with}
 use Rattle.guarantees.specs.Run.{RunCall, Calls, SimulatesFrom, refusal_numbers, RefusedFrom}
 use Rattle.guarantees.specs.Session.{Request, before_of, jobs_of, Bring, Table, called, table_after, AllAlike}

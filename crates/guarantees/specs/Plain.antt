@@ -1,14 +1,14 @@
 -- What the plain engine's call guarantees beside being the run call's twin (PlainIsRun of plain). The proofs are in proofs/, a file for each
 -- statement.
-use Rattle.std.specs.Prelude.{ℕ, ◌+◌, ◌≤◌, ◌<◌, ◌≡◌, List, ◌++◌, false, ◌⊎◌, ◌↔◌, length, ℤ, pos}
+use Rattle.std.specs.Prelude.{ℕ, ◌+◌, ◌≤◌, ◌<◌, ◌≡◌, List, ◌++◌, false, ◌⊎◌, ◌↔◌, length, ℤ, pos, Ok, Err}
 use Rattle.calculus.specs.Tree.{Tree}
 use Rattle.calculus.specs.BigStep.{Costs}
 use Rattle.table.specs.Slots.{room}
 use Rattle.table.specs.Sound.{SoundSlots}
 use Rattle.table.specs.Holds.{Holds}
-use Rattle.plain.specs.declared.PlainAnswer.{PlainAnswer}
-use Rattle.plain.specs.declared.PlainAnswer.TheVariants.{Refused, Done, Stopped}
-use Rattle.plain.specs.Answer.{plain_numbers}
+use Rattle.stepping.specs.Stops.{stops_with}
+use Rattle.plain.specs.declared.PlainEnding.TheVariants.{Done, Stopped}
+use Rattle.plain.specs.Answer.{PlainAnswer, plain_numbers}
 use Rattle.plain.specs.Run.{played, plain_run}
 use Rattle.plain.specs.Meaning.{PlainCall, Shown, shown, PlainIsRun}
 use Rattle.guarantees.specs.Run.{started, Listed, OutOfTable, Misplaced, Damaged, InOrder}
@@ -66,9 +66,9 @@ PlainDoneExactly =
 
 -- The number tells which case of the answer it is, and the numbers the whole answer.
 abbrev pub PlainTells : PlainAnswer → Type 0
-PlainTells (Refused n) = Listed 49 n
-PlainTells (Done slot steps used) = Unit {0}
-PlainTells (Stopped n steps used) = (31 ≤ n) × (n ≤ 33)
+PlainTells (Err n) = Listed 49 n
+PlainTells (Ok (Done slot steps used)) = Unit {0}
+PlainTells (Ok (Stopped why steps used)) = (31 ≤ stops_with why) × (stops_with why ≤ 33)
 
 abbrev pub PlainNumberTells : PlainCall → Type 0
 PlainNumberTells call =

@@ -1,6 +1,6 @@
 -- What the run call and the carry-on call guarantee, for each call by itself: a run from scratch, or from a stop. The proofs are in
 -- proofs/, a file for each statement.
-use Rattle.std.specs.Prelude.{ℕ, ◌+◌, ◌-◌, ◌*◌, ◌≤◌, ◌<◌, ◌≡◌, List, [], ◌++◌, reverse, Bool, true, false, ◌&&◌, ◌||◌, ◌⊎◌, ◌↔◌, length, get_or, drop, eqb, leb, ℤ, pos, negsuc}
+use Rattle.std.specs.Prelude.{ℕ, ◌+◌, ◌-◌, ◌*◌, ◌≤◌, ◌<◌, ◌≡◌, List, [], ◌++◌, reverse, Bool, true, false, ◌&&◌, ◌||◌, ◌⊎◌, ◌↔◌, length, get_or, drop, eqb, leb, ℤ, pos, negsuc, Ok, Err}
 use Rattle.calculus.specs.Tree.{Tree}
 use Rattle.calculus.specs.Rules.{TreeFrame}
 use Rattle.calculus.specs.Machine.{Outcome}
@@ -11,12 +11,12 @@ use Rattle.table.specs.Sound.{SoundSlot, SoundSlots}
 use Rattle.table.specs.Holds.{Holds}
 use Rattle.frames.specs.Stand.{StandFrom, ZeroFrom}
 use Rattle.frames.specs.SoundFrames.{SoundJobs}
-use Rattle.engine.specs.declared.RunAnswer.{RunAnswer}
-use Rattle.engine.specs.declared.RunAnswer.TheVariants.{Refused, Done, Stopped}
+use Rattle.stepping.specs.Stops.{stops_with}
+use Rattle.engine.specs.declared.Ending.TheVariants.{Done, Stopped}
 use Rattle.engine.specs.Run.{Ran, ran, run_from}
 use Rattle.engine.specs.declared.From.{From}
 use Rattle.engine.specs.declared.From.TheVariants.{Scratch, Stop}
-use Rattle.engine.specs.Answer.{RunNumbers, run_numbers}
+use Rattle.engine.specs.Answer.{RunAnswer, RunNumbers, run_numbers}
 use Rattle.guarantees.specs.Agrees.{Agrees}
 
 -- what any call leaves and answers, by the word table, the base, f, x, the used count, the fuel and the frame table
@@ -92,9 +92,9 @@ RefusalKeeps =
 
 -- The number tells which case of the answer it is: a refusal has 21, 23, 24 or 40, a stop 31, 32 or 33.
 abbrev pub Tells : RunAnswer → Type 0
-Tells (Refused n) = Listed 40 n
-Tells (Done slot steps used) = Unit {0}
-Tells (Stopped n f x steps used waiting) = (31 ≤ n) × (n ≤ 33)
+Tells (Err n) = Listed 40 n
+Tells (Ok (Done slot steps used)) = Unit {0}
+Tells (Ok (Stopped why f x steps used waiting)) = (31 ≤ stops_with why) × (stops_with why ≤ 33)
 
 abbrev pub NumberTells : Type 0
 NumberTells =

@@ -8,11 +8,10 @@ use Rattle.table.specs.Slots.{room}
 use Rattle.frames.specs.Frames.{frame_room}
 use Rattle.table.specs.Sound.{SoundSlots}
 use Rattle.table.specs.Holds.{Holds, HoldsFrom}
-use Rattle.engine.specs.declared.RunAnswer.{RunAnswer}
 use Rattle.engine.specs.Run.{Ran, ran, run_from}
 use Rattle.engine.specs.declared.From.{From}
 use Rattle.engine.specs.declared.From.TheVariants.{Scratch, Stop}
-use Rattle.engine.specs.Answer.{run_numbers}
+use Rattle.engine.specs.Answer.{RunAnswer, run_numbers}
 use Rattle.guarantees.specs.Agrees.{Agrees}
 use Rattle.guarantees.specs.Run.{Calls, steps_before, later, RunSimulates, RefusedExactly, refusal_numbers, started}
 

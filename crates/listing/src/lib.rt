@@ -4,10 +4,10 @@
 ghost use Rattle.std.specs.Prelude.{◌≡◌, ◌≤◌, length, take, drop};
 ghost use Rattle.listing.specs.Listing.{listing};
 
-use loader::LoadAnswer;
 use report::{put_accepted, put_refused};
 
-// The words of a table with room for the nodes of any bundle, and of one for the slots of its exports.
+// The words of a table with room for the nodes of any bundle, and of one for the slots of its exports. Fixed tables, as C lends them to
+// a load: the library has no heap.
 const NODE_WORDS: usize = 1024;
 
 const EXPORT_WORDS: usize = 32;
@@ -22,7 +22,7 @@ pub fn list(input: &[u8], out: &mut [u8; TEXT_BYTES]) -> usize
     let mut words: [u32; NODE_WORDS] = [0; NODE_WORDS];
     let mut slots: [u32; EXPORT_WORDS] = [0; EXPORT_WORDS];
     match loader::load(input, &mut words, 0, &mut slots) {
-        LoadAnswer::Refused(number) => put_refused(out, number),
-        LoadAnswer::Accepted { nodes, exports } => put_accepted(input, nodes, &slots, exports, out),
+        Ok(found) => put_accepted(input, found.nodes, &slots, found.exports, out),
+        Err(refused) => put_refused(out, u32::from(refused)),
     }
 }

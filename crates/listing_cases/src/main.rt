@@ -1,40 +1,32 @@
 // Writes, for each bundle of a folder whose name the input has, its name and the text for it.
 #![tactic(auto)]
 
-use cases::files::{line_end, read_file};
-use cases::output::text;
-use std::fs::Files;
+use cases::files::read_file;
+use cases::input::read_start;
+use listing::TEXT_BYTES;
+use std::io;
+use std::rt::Files;
 
-const STDIN: i32 = 0;
+// So many bytes of the input are read.
+const INPUT_BYTES: usize = 4096;
 
-// Writes the text for an input.
-fn show(input: &[u8]) {
-    let mut lines = io::buffer();
-    let n = listing::list(input, &mut lines);
-    text(&lines[0..n]);
+// A byte more than the largest bundle has is read of a file.
+const FILE_BYTES: usize = 65_537;
+
+fn show_file(rt: &(impl Files + Print + AllocGlobal), name: &[u8]) -> io::Result<()> {
+    let file = read_file(rt, name, FILE_BYTES)?;
+    // `list` is lent a fixed buffer, as check_bundle has one, and answers how much of it is filled.
+    let mut text = [0; TEXT_BYTES];
+    let written = listing::list(&file, &mut text);
+    rt.write_all(name)?;
+    rt.write_all(b"\n")?;
+    rt.write_all(&text[..written])
 }
 
-// The bundle in the file of that name; a byte more than the largest has is read.
-fn show_file(rt: &impl Files, name: &[u8]) {
-    let mut bytes: [u8; 65537] = [0; 65537];
-    let n = read_file(rt, name, &mut bytes);
-    text(name);
-    text(b"\n");
-    show(&bytes[..n]);
-}
-
-// The files whose names stand in s, one to a line.
-fn show_files(rt: &impl Files, s: &[u8]) {
-    let mut at = 0;
-    while at < s.len() {
-        let end = line_end(s, at);
-        show_file(rt, &s[at..end]);
-        at = end + 1;
+fn main(rt: HostRuntime) -> io::Result<()> {
+    let names = read_start(rt.reader(), INPUT_BYTES, rt.alloc())?;
+    for line in names.split_inclusive(|byte| *byte == b'\n') {
+        show_file(&rt, line.strip_suffix(b"\n").unwrap_or(line))?;
     }
-}
-
-fn main(rt: HostRuntime) {
-    let mut names = io::buffer();
-    let n = io::read_full(STDIN, &mut names);
-    show_files(&rt, &names[..n]);
+    Ok(())
 }

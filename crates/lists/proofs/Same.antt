@@ -1,14 +1,13 @@
 -- Laws of the test of byte strings: it means equality.
-use Prim.Native.Nat.{ℕ, ◌+◌, ◌≤◌, ◌<◌}
-use mathlib.Core.Path.{◌≡◌, refl, sym, ap}
+use Rattle.std.specs.Prelude.{nat_eq, cond, ◌&&◌}
+use Rattle.std.specs.Cmp.Lexicographic.{pointwise}
+use Prim.Native.Nat.{ℕ}
+use mathlib.Core.Path.{◌≡◌, refl}
 use mathlib.Core.List.{List, [], ◌∷◌}
 use mathlib.Core.Bool.{Bool, true, false}
 use mathlib.Core.Logic.{◌↔◌}
 use native.Mathlib.Omega.{arith}
-use borrow.Author.Count.{below_more}
 use borrow.Author.Tests.{eq-eqb, eqb-true}
-use lib.ListN.{length, get_or}
-use lib.Seq.{ext_get_or}
 use lib.Dec.{eqb}
 use Rattle.lists.specs.Lists.{same_bytes}
 
@@ -48,29 +47,15 @@ same_differ a b d = test (same_bytes a b) refl
     test true q = absurd (d (same_sound a b q))
     test false q = q
 
--- the first i bytes of two strings are compared: none differs, or the strings are not the same
-pub record Compared (a b : List ℕ) (same : Bool) (i : ℕ) : Type 0 where
-  pub below : i ≤ length a
-  pub alike : same ≡ true → (k : ℕ) → k < i → get_or a k 0 ≡ get_or b k 0
-  pub apart : same ≡ false → a ≡ b → ⊥
-
-module _ (a b : List ℕ) where
-  pub compared_none : Compared a b true 0
-  compared_none = record { below = omega arith; alike = λ e k h. absurd (omega arith); apart = λ e. not_both refl e }
-
-  module _ {same : Bool} {i : ℕ} (t : Compared a b same i) (h : i < length a) where
-    pub compared_same : get_or a i 0 ≡ get_or b i 0 → Compared a b same (i + 1)
-    compared_same e =
-        record { below = omega arith; alike = λ q. below_more _ _ (t.alike q) (omega (arith, e)); apart = t.apart }
-
-    pub compared_other : (get_or a i 0 ≡ get_or b i 0 → ⊥) → Compared a b false (i + 1)
-    compared_other n =
-        record {
-          below = omega arith;
-          alike = λ q. not_both q refl;
-          apart = λ q e. n (ap (λ (l : List ℕ). get_or l i 0) e);
-        }
-
-  pub compared_all : (same : Bool) {i : ℕ} → Compared a b same i → length a ≤ i → length a ≡ length b → same ≡ same_bytes a b
-  compared_all true t h e = sym (same_true (ext_get_or 0 _ _ e (λ k l. t.alike refl k (omega arith))))
-  compared_all false t h e = sym (same_differ _ _ (t.apart refl))
+-- what `==` answers of two slices is the test
+pub same_is : (a b : List ℕ) → pointwise nat_eq a b ≡ same_bytes a b
+unfolding same_bytes
+same_is [] [] = refl
+same_is [] (y ∷ ys) = refl
+same_is (x ∷ xs) [] = refl
+same_is (x ∷ xs) (y ∷ ys) = first (nat_eq x y) (same_is xs ys)
+  where
+    first : (t : Bool) → pointwise nat_eq xs ys ≡ same_bytes xs ys →
+        (t && pointwise nat_eq xs ys) ≡ cond t (same_bytes xs ys) false
+    first true rest = rest
+    first false rest = refl

@@ -1,10 +1,11 @@
 -- Laws of tests over a list: none of some tests holds, and no element passes a test.
+use Rattle.std.specs.Prelude.{is_some}
 use Prim.Native.Nat.{ℕ}
 use mathlib.Core.Path.{◌≡◌, refl}
 use mathlib.Core.List.{List, [], ◌∷◌}
 use mathlib.Core.Bool.{Bool, false}
 use mathlib.Core.Logic.{◌↔◌}
-use Rattle.lists.specs.Lists.{any_of, some_of, index_of, found, repeats}
+use Rattle.lists.specs.Lists.{any_of, some_of, index_of, repeats}
 use Rattle.lists.specs.Among.{Among, here, there}
 use Rattle.lists.proofs.Tests.{either_false}
 
@@ -41,7 +42,7 @@ module _ {A : Type 0} (test : A → List A → Bool) (P : A → Type 0)
 -- some element's byte string stands again after it where the list of them repeats one
 module _ {A : Type 0} (one : A → List ℕ) (all : List A → List (List ℕ)) (none : all [] ≡ [])
     (more : (x : A) (xs : List A) → all (x ∷ xs) ≡ one x ∷ all xs) where
-  pub again_repeats : (xs : List A) → some_of (λ x rest. found (index_of (one x) 0 (all rest))) xs ≡ repeats (all xs)
+  pub again_repeats : (xs : List A) → some_of (λ x rest. is_some (index_of (one x) 0 (all rest))) xs ≡ repeats (all xs)
   unfolding some_of repeats
   again_repeats [] = rw none
   again_repeats (x ∷ xs) = rw (more x xs, again_repeats xs)

@@ -1,7 +1,5 @@
 -- Byte strings that are the same, the place of one among others, and tests over a list.
-use Rattle.std.specs.Prelude.{ℕ, ◌+◌, List, [], ◌∷◌, Bool, true, false, cond, eqb}
-use Rattle.lists.specs.declared.Found.{Found}
-use Rattle.lists.specs.declared.Found.TheVariants.{Index, Nothing}
+use Rattle.std.specs.Prelude.{ℕ, ◌+◌, List, [], ◌∷◌, Bool, true, false, cond, eqb, is_some, Option, Some, None}
 
 -- equality of two byte strings, as a test
 unfoldable pub same_bytes : List ℕ → List ℕ → Bool
@@ -11,18 +9,14 @@ same_bytes (x ∷ xs) [] = false
 same_bytes (x ∷ xs) (y ∷ ys) = cond (eqb x y) (same_bytes xs ys) false
 
 -- the index of the first of some byte strings that is this one, counted from i, or none
-unfoldable pub index_of : List ℕ → ℕ → List (List ℕ) → Found
-index_of t i [] = Nothing
-index_of t i (x ∷ xs) = cond (same_bytes x t) (Index i) (index_of t (i + 1) xs)
-
-abbrev pub found : Found → Bool
-found (Index i) = true
-found Nothing = false
+unfoldable pub index_of : List ℕ → ℕ → List (List ℕ) → Option ℕ
+index_of t i [] = None
+index_of t i (x ∷ xs) = cond (same_bytes x t) (Some i) (index_of t (i + 1) xs)
 
 -- some byte string stands again further on
 unfoldable pub repeats : List (List ℕ) → Bool
 repeats [] = false
-repeats (x ∷ xs) = cond (found (index_of x 0 xs)) true (repeats xs)
+repeats (x ∷ xs) = cond (is_some (index_of x 0 xs)) true (repeats xs)
 
 -- one of some tests holds
 unfoldable pub any_of : List Bool → Bool

@@ -1,4 +1,7 @@
 -- What an accepted load writes: the calls that write are met, and together write what they should.
+use Rattle.std.specs.Prelude.{Some, Result, Err}
+use Rattle.loader.specs.Accepted.{accepted}
+use Rattle.loader.specs.declared.Accepted.{Accepted}
 use Prim.Native.Nat.{ℕ, ◌≤◌}
 use mathlib.Core.Path.{◌≡◌, sym, ap, ◌∙◌}
 use mathlib.Core.List.{List, ◌++◌}
@@ -10,20 +13,17 @@ use Rattle.refusals.proofs.Rows.{answer_clear, clear_row, by_refusal, by_pass}
 use Rattle.sizes.specs.Sizes.{nodes_size}
 use Rattle.wire.specs.Wire.{span}
 use Rattle.table.specs.Slots.{room}
-use Rattle.manifest_shape.specs.declared.Manifest.TheVariants.{Shape}
 use Rattle.manifest_shape.specs.Shape.{manifest_of}
 use Rattle.manifest.specs.Judged.{exports_of}
 use Rattle.nodes.specs.Records.{nodes_of, count}
 use Rattle.container.specs.Directory.{manifest_section, nodes_section}
-use Rattle.references.specs.declared.Reference.TheVariants.{Export}
+use Rattle.manifest.specs.declared.listed.Reference.TheVariants.{Export}
 use Rattle.bundle.specs.declared.Outline.{Outline}
 use Rattle.references.specs.References.{hashes_from}
 use Rattle.references.proofs.Hashes.{export_hashes_length}
 use Rattle.bundle.proofs.Stages.{sound_shaped, sound_closed, sound_whole}
 use Rattle.bundle.proofs.Verdicts.{contents_shape, contents_manifest, contents_nodes}
 use Rattle.unpacking.specs.declared.exports.ExportList.{ExportList}
-use Rattle.loader.specs.declared.LoadAnswer.{LoadAnswer}
-use Rattle.loader.specs.declared.LoadAnswer.TheVariants.{Refused, Accepted}
 use Rattle.unpacking.specs.Written.{written, slots_named}
 use Rattle.loader.specs.Load.{records_in, exports_in, loaded, exports_written, accept}
 use Rattle.loader.specs.Admit.{fit_checks, admitted}
@@ -52,7 +52,7 @@ module _ {m : List ℕ} {x : ExportList} {s links slots w out : List ℕ} (h : W
     -- v and u stand for the tables that the calls left
     pub all_written : {v u : List ℕ} → v ≡ written (nodes_of s) 0 (nodes_of s) w →
         u ≡ slots_named (nodes_of s) (hashes_from m Export x.count x.at) ++ drop x.count out →
-        loaded v u (Accepted n x.count) ≡ accept (nodes_of s) (exports_of m) w out
+        loaded v u (accepted n x.count) ≡ accept (nodes_of s) (exports_of m) w out
     unfolding accept exports_written
     all_written ev eu = rw (ev, eu, h.listed.hashes, h.listed.all, nodes_all)
 
@@ -66,7 +66,7 @@ module _ {file : List ℕ} {c : Outline} {links slots : List ℕ} (h : Vetted fi
   nodes_are : s ≡ nodes_section file
   nodes_are = es ∙ contents_nodes file h.found
 
-  pub admit_shape : manifest_of m ≡ Shape c.layout
+  pub admit_shape : manifest_of m ≡ Some c.layout
   admit_shape = rw manifest_is (contents_shape file h.found)
 
   ready : RecordsReady s links slots
@@ -88,9 +88,9 @@ module _ {file : List ℕ} {c : Outline} {links slots : List ℕ} (h : Vetted fi
     answered : r ≡ answer (fit_checks (room w) (length out) (length (records_in file)) (length (exports_in file)))
     answered = rw (← nodes_are, ← manifest_is, ← nodes_count, ← lx.all, ← ek) er
 
-    pub admit_refused : (r ≡ 0 → ⊥) → loaded w out (Refused r) ≡ admitted (records_in file) (exports_in file) w out
+    pub admit_refused : (r ≡ 0 → ⊥) → loaded w out (Err r) ≡ admitted (records_in file) (exports_in file) w out
     unfolding admitted
-    admit_refused some = by_refusal (λ i. loaded w out (Refused i)) (accept (records_in file) (exports_in file) w out) answered some
+    admit_refused some = by_refusal (λ i. loaded w out (Err i)) (accept (records_in file) (exports_in file) w out) answered some
 
     module _ (z : r ≡ 0) where
       pub admit_writable : Writable m x s links slots w out
@@ -104,9 +104,9 @@ module _ {file : List ℕ} {c : Outline} {links slots : List ℕ} (h : Vetted fi
             space = ltb-false (length out) x.count (clear_row 22 rows);
           }
 
-      pub admit_written : {v u : List ℕ} {a : LoadAnswer} → loaded v u a ≡ accept (nodes_of s) (exports_of m) w out →
+      pub admit_written : {v u : List ℕ} {a : Result Accepted ℕ} → loaded v u a ≡ accept (nodes_of s) (exports_of m) w out →
           loaded v u a ≡ admitted (records_in file) (exports_in file) w out
       unfolding admitted
       admit_written e =
           (rw (nodes_are, manifest_is) at e)
-          ∙ by_pass (λ i. loaded w out (Refused i)) (accept (records_in file) (exports_in file) w out) answered z
+          ∙ by_pass (λ i. loaded w out (Err i)) (accept (records_in file) (exports_in file) w out) answered z

@@ -1,3 +1,4 @@
+pub mod Accepted
 pub mod Load
 pub mod Answer
 pub mod Admit

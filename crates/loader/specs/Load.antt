@@ -1,5 +1,7 @@
 -- The load call: what it answers, and every word that it leaves in both tables.
-use Rattle.std.specs.Prelude.{ℕ, Bool, true, List, [], ◌∷◌, ◌++◌, length, drop, ltb, ℤ}
+use Rattle.std.specs.Prelude.{ℕ, Bool, true, List, [], ◌∷◌, ◌++◌, length, drop, ltb, ℤ, Result, Err}
+use Rattle.loader.specs.Accepted.{accepted}
+use Rattle.loader.specs.declared.Accepted.{Accepted}
 use Rattle.refusals.specs.Refusals.{Row, ◌when◌, answer, unless_refused}
 use Rattle.table.specs.Base.{from_base}
 use Rattle.table.specs.Slots.{room}
@@ -9,8 +11,6 @@ use Rattle.nodes.specs.Records.{NodeRecord as Record, nodes_of}
 use Rattle.container.specs.Directory.{manifest_section, nodes_section}
 use Rattle.references.specs.References.{export_hashes}
 use Rattle.bundle.specs.Checks.{checks}
-use Rattle.loader.specs.declared.LoadAnswer.{LoadAnswer}
-use Rattle.loader.specs.declared.LoadAnswer.TheVariants.{Refused, Accepted}
 use Rattle.unpacking.specs.Written.{written, slots_named}
 
 -- the records and the exports of a file
@@ -43,7 +43,7 @@ load_refusal file w base out = answer (load_checks file w base out)
 
 -- the word table and the export table at exit, and the answer
 pub data Loaded : Type 0 where
-  loaded : List ℕ → List ℕ → LoadAnswer → Loaded
+  loaded : List ℕ → List ℕ → Result Accepted ℕ → Loaded
 
 -- the export table with the slots of the exports, in manifest order
 unfoldable pub exports_written : List Record → List Export → List ℕ → List ℕ
@@ -51,7 +51,7 @@ exports_written rs es out = slots_named rs (export_hashes es) ++ drop (length es
 
 -- the records in the part of the table that is ours, the export slots, and how many there are of each
 unfoldable pub accept : List Record → List Export → List ℕ → List ℕ → Loaded
-accept rs es w out = loaded (written rs 0 rs w) (exports_written rs es out) (Accepted (length rs) (length es))
+accept rs es w out = loaded (written rs 0 rs w) (exports_written rs es out) (accepted (length rs) (length es))
 
 -- with the words before the base, which keep their contents
 abbrev pub loaded_with : List ℕ → Loaded → Loaded
@@ -60,10 +60,10 @@ loaded_with before (loaded w out a) = loaded (before ++ w) out a
 -- a base outside the table has been refused
 unfoldable pub accept_from : List ℕ → List ℕ → ℤ → List ℕ → Loaded
 accept_from file w base out =
-    from_base w base (loaded w out (Refused 21))
+    from_base w base (loaded w out (Err 21))
     (λ before part. loaded_with before (accept (records_in file) (exports_in file) part out))
 
 -- a refusal changes nothing
 unfoldable pub load : List ℕ → List ℕ → ℤ → List ℕ → Loaded
 load file w base out =
-    unless_refused (load_refusal file w base out) (λ n. loaded w out (Refused n)) (accept_from file w base out)
+    unless_refused (load_refusal file w base out) (λ n. loaded w out (Err n)) (accept_from file w base out)

@@ -1,10 +1,9 @@
 -- What the load writes from: a bundle that 1 to 20 let pass, and what there is room for.
-use Rattle.std.specs.Prelude.{ℕ, ◌≤◌, ◌≡◌, List, length}
+use Rattle.std.specs.Prelude.{ℕ, ◌≤◌, ◌≡◌, List, length, Ok}
 use Rattle.table.specs.Slots.{room}
 use Rattle.nodes.specs.Records.{nodes_of}
 use Rattle.nodes.specs.Links.{PlacedTables}
 use Rattle.bundle.specs.declared.Outline.{Outline}
-use Rattle.bundle.specs.declared.Verdict.TheVariants.{Passed}
 use Rattle.bundle.specs.Checks.{refusal}
 use Rattle.bundle.specs.Verdict.{described}
 use Rattle.unpacking.specs.declared.exports.ExportList.{ExportList}
@@ -14,7 +13,7 @@ use Rattle.loader.specs.Load.{records_in}
 -- a bundle that 1 to 20 let pass, what it has, and the links and slots of its records
 pub record Vetted (file : List ℕ) (c : Outline) (links slots : List ℕ) : Type 0 where
   pub clear : refusal file ≡ 0
-  pub found : described file ≡ Passed c
+  pub found : described file ≡ Ok c
   pub placing : PlacedTables (records_in file) links slots
 
 -- a manifest section m and a nodes section s of such a bundle, for which both tables have room

@@ -1,4 +1,5 @@
 -- The names of exports: as many as there are exports, and short where no export has a faulty one.
+use Rattle.std.specs.Prelude.{Option, Some, None}
 use Prim.Native.Nat.{ℕ, zero, suc, ◌≤◌}
 use mathlib.Core.Path.{◌≡◌, refl}
 use mathlib.Core.List.{List, [], ◌∷◌}
@@ -9,8 +10,7 @@ use Rattle.lists.specs.Lists.{any_of, some_of}
 use Rattle.lists.proofs.Same.{not_both}
 use Rattle.sizes.specs.Sizes.{within, name_size}
 use Rattle.sizes.proofs.Within.{within_exactly}
-use Rattle.manifest_shape.specs.declared.Manifest.{Manifest}
-use Rattle.manifest_shape.specs.declared.Manifest.TheVariants.{Shape, Malformed}
+use Rattle.manifest_shape.specs.declared.Layout.{Layout}
 use Rattle.manifest_shape.specs.Shape.{manifest_of}
 use Rattle.manifest.specs.declared.exports.ExportFault.TheVariants.{NameSize}
 use Rattle.manifest.specs.Content.{Export, exports_at, names}
@@ -43,6 +43,6 @@ short_names m h i = go (manifest_of m) refl
     first true b q = not_both refl q
     first false b q = refl
 
-    go : (x : Manifest) → manifest_of m ≡ x → length (get_or (names (exports_of m)) i []) ≤ name_size.most
-    go (Shape l) e = rw e (short_each (exports_at m l.exports) (first _ _ (rw e at h)) i)
-    go Malformed e = rw e (omega arith)
+    go : (x : Option Layout) → manifest_of m ≡ x → length (get_or (names (exports_of m)) i []) ≤ name_size.most
+    go (Some l) e = rw e (short_each (exports_at m l.exports) (first _ _ (rw e at h)) i)
+    go None e = rw e (omega arith)

@@ -1,18 +1,18 @@
 -- A manifest of the stated shape, by its layout: what is judged of it, and what it has.
+use Rattle.std.specs.Prelude.{Some, None}
+use Rattle.std.specs.List.{slice_get}
 use Prim.Native.Nat.{ℕ}
 use mathlib.Core.Path.{◌≡◌}
 use mathlib.Core.List.{List}
 use mathlib.Core.Bool.{true, false}
-use lib.ListN.{get_or}
 use Rattle.lists.specs.Lists.{index_of}
-use Rattle.manifest_shape.specs.declared.parts.Parsed.TheVariants.{Bad}
 use Rattle.manifest_shape.specs.declared.Layout.{Layout}
-use Rattle.manifest_shape.specs.declared.Manifest.TheVariants.{Shape, Malformed}
 use Rattle.manifest_shape.specs.Shape.{manifest_of}
+use Rattle.manifest.specs.declared.listed.Reference.{Reference}
 use Rattle.manifest.specs.Content.{roots_at, exports_at, places_at, names}
 use Rattle.manifest.specs.Judged.{malformed, unsupported_at, unsupported, misnamed_at, misnamed, roots_of, exports_of, export_place, export_index}
 
-module _ (s : List ℕ) {l : Layout} (h : manifest_of s ≡ Shape l) where
+module _ (s : List ℕ) {l : Layout} (h : manifest_of s ≡ Some l) where
   pub shape_formed : malformed s ≡ false
   unfolding malformed
   shape_formed = rw h
@@ -33,7 +33,7 @@ module _ (s : List ℕ) {l : Layout} (h : manifest_of s ≡ Shape l) where
   unfolding exports_of
   shape_exports = rw h
 
-  pub shape_place : (i : ℕ) → export_place s i ≡ get_or (places_at s l.exports) i Bad
+  pub shape_place : (i : ℕ) → export_place s i ≡ slice_get (places_at s Reference.Export l.exports) i
   unfolding export_place
   shape_place i = rw h
 
@@ -41,6 +41,6 @@ module _ (s : List ℕ) {l : Layout} (h : manifest_of s ≡ Shape l) where
   unfolding export_index
   shape_index name = rw shape_exports
 
-pub no_shape : (s : List ℕ) → manifest_of s ≡ Malformed → malformed s ≡ true
+pub no_shape : (s : List ℕ) → manifest_of s ≡ None → malformed s ≡ true
 unfolding malformed
 no_shape s h = rw h

@@ -1,150 +1,77 @@
 // The exports of a manifest: their faults, one by its name, and where one stands.
-ghost use Rattle.std.specs.Prelude.{◌≡◌, get_or};
-ghost use Rattle.lists.specs.Lists.{index_of, found};
-ghost use Rattle.manifest_shape.specs.Shape.{and_then, sized_end};
-ghost use Rattle.manifest.specs.Content.{root_past, text_at, export_at, exports_from, exports_at, places_from, places_at, names};
+ghost use Rattle.std.specs.Prelude.{◌≡◌, map};
+ghost use Rattle.std.specs.List.{slice_get};
+ghost use Rattle.lists.specs.Lists.{index_of};
+ghost use Rattle.manifest.specs.Content.{export_at, exports_at, places_at, names, left_places};
 ghost use Rattle.manifest.specs.Judged.{export_faulty, some_export};
 
-use crate::content::{export_past, root_past, text_at};
-use lists::Found;
-use manifest_shape::parts::{Parsed, sized_end};
+use crate::content::{root_past, text_at};
+use crate::listed::{Places, Reference};
+use lists::same_bytes;
+use manifest_shape::parts::sized_end;
 use sizes::Size;
-use wire::Num;
 
-// What can be wrong with an export.
-#[derive(Clone, Copy)]
+// What can be wrong with an export: an enum and no closures, since definitions and promises name each fault.
+#[derive(Clone, Copy, Debug, PartialEq, Eq)]
 pub enum ExportFault {
     Abi,
     NameSize,
     NameTwice,
 }
 
+// The index of the first that has the name.
+#[tactic(auto, using(crate::proofs::Lists::list_length))]
+fn first_named(s: &[u8], name: &[u8], mut places: Places<'_>) -> Option<usize>
+    ensures { result ≡ index_of name.now 0 (names (map (export_at s.now) (left_places places.entry))) }
+{
+    places.position(|p| same_bytes(text_at(s, Some(p)), name))
+}
+
 // The abi string of the export at a position.
 fn abi_at(s: &[u8], at: usize) -> &[u8]
-    ensures { result.now ≡ text_at s.now (and_then (sized_end s.now at) (root_past s.now)) }
+    ensures { result.now ≡ (export_at s.now at).abi }
 {
-    match sized_end(s, at) {
-        Parsed::To(p) => text_at(s, root_past(s, p)),
-        Parsed::Bad => &s[..0],
-    }
+    text_at(s, sized_end(s, at).and_then(|hash| root_past(s, hash)))
 }
 
-// The index of the first of the n exports from a position on that has the name.
-fn find_from(s: &[u8], name: &[u8], n: u64, at: usize) -> Found
-    ensures { result ≡ index_of name.now 0 (names (exports_from s.now n at)) }
-{
-    let mut p = at;
-    let mut i: u64 = 0;
-    while i < n {
-        match export_past(s, p) {
-            Parsed::To(q) => {
-                if lists::same_bytes(text_at(s, Parsed::To(p)), name) {
-                    return Found::Index(i as usize);
-                }
-                p = q;
-            }
-            Parsed::Bad => {
-                return Found::Nothing;
-            }
-        }
-        i += 1;
-    }
-    Found::Nothing
-}
-
-// Whether one of the n exports from a position on has the name.
-fn has(s: &[u8], name: &[u8], n: u64, at: usize) -> bool
-    ensures { result ≡ found (index_of name.now 0 (names (exports_from s.now n at))) }
-{
-    match find_from(s, name, n, at) {
-        Found::Index(_) => true,
-        Found::Nothing => false,
-    }
-}
-
-// Whether the export at p has the fault; n exports stand after it, from q on.
-fn export_faulty(s: &[u8], fault: ExportFault, p: usize, n: u64, q: usize) -> bool
-    ensures { result ≡ export_faulty fault (export_at s.now p) (exports_from s.now n q) }
+// Whether the export at p has the fault; the rest stand after it.
+#[tactic(auto, unfolding(crate::specs::Judged::export_faulty))]
+fn export_faulty(s: &[u8], fault: ExportFault, p: usize, rest: Places<'_>) -> bool
+    ensures { result
+        ≡ export_faulty fault (export_at s.now p) (map (export_at s.now) (left_places rest.entry)) }
 {
     match fault {
-        ExportFault::Abi => !lists::same_bytes(abi_at(s, p), b"arboricx.abi.tree.v1"),
-        ExportFault::NameSize => !Size::NAME.allows(text_at(s, Parsed::To(p)).len() as u64),
-        ExportFault::NameTwice => has(s, text_at(s, Parsed::To(p)), n, q),
+        ExportFault::Abi => !same_bytes(abi_at(s, p), b"arboricx.abi.tree.v1"),
+        ExportFault::NameSize => !Size::NAME.allows(text_at(s, Some(p)).len() as u64),
+        ExportFault::NameTwice => first_named(s, text_at(s, Some(p)), rest).is_some(),
     }
 }
 
-// Whether one of the n exports from a position on has the fault.
-fn some_export_from(s: &[u8], fault: ExportFault, n: u64, at: usize) -> bool
-    ensures { result ≡ some_export fault (exports_from s.now n at) }
+// Whether one of the exports after their count at a position has the fault. A `while let`, since those after each one are looked at, too.
+#[tactic(auto, using(crate::proofs::ExportLists::looking))]
+pub(crate) fn some_export(s: &[u8], fault: ExportFault, at: usize) -> bool
+    ensures { result ≡ some_export fault (exports_at s.now at) }
 {
-    let mut p = at;
-    let mut left = n;
-    while 0 < left {
-        match export_past(s, p) {
-            Parsed::To(q) => {
-                left -= 1;
-                if export_faulty(s, fault, p, left, q) {
-                    return true;
-                }
-                p = q;
-            }
-            Parsed::Bad => {
-                return false;
-            }
+    let mut places = Places::after(s, Reference::Export, at);
+    while let Some(p) = places.next() {
+        if export_faulty(s, fault, p, places) {
+            return true;
         }
     }
     false
 }
 
-// Whether one of the exports after their count at a position has the fault.
-pub(crate) fn some_export(s: &[u8], fault: ExportFault, at: usize) -> bool
-    ensures { result ≡ some_export fault (exports_at s.now at) }
-{
-    match wire::u32_at(s, at) {
-        Num::Value(n) => some_export_from(s, fault, n, at + 4),
-        Num::Short => false,
-    }
-}
-
 // The index of the export with the name.
-pub fn find(s: &[u8], name: &[u8], at: usize) -> Found
+#[tactic(auto, using(crate::proofs::ExportLists::exports_there))]
+pub fn find(s: &[u8], name: &[u8], at: usize) -> Option<usize>
     ensures { result ≡ index_of name.now 0 (names (exports_at s.now at)) }
 {
-    match wire::u32_at(s, at) {
-        Num::Value(n) => find_from(s, name, n, at + 4),
-        Num::Short => Found::Nothing,
-    }
-}
-
-// Where the i-th of the n exports from a position on stands.
-fn place_from(s: &[u8], n: u64, at: usize, i: u64) -> Parsed
-    ensures { result ≡ get_or (places_from s.now n at) i Parsed.Bad }
-{
-    let mut p = at;
-    let mut k: u64 = 0;
-    while k < n {
-        match export_past(s, p) {
-            Parsed::To(q) => {
-                if k == i {
-                    return Parsed::To(p);
-                }
-                p = q;
-            }
-            Parsed::Bad => {
-                return Parsed::Bad;
-            }
-        }
-        k += 1;
-    }
-    Parsed::Bad
+    first_named(s, name, Places::after(s, Reference::Export, at))
 }
 
 // Where the i-th of the exports after their count at a position stands.
-pub fn place_at(s: &[u8], at: usize, i: u64) -> Parsed
-    ensures { result ≡ get_or (places_at s.now at) i Parsed.Bad }
+pub fn place_at(s: &[u8], at: usize, i: u64) -> Option<usize>
+    ensures { result ≡ slice_get (places_at s.now Reference.Export at) i }
 {
-    match wire::u32_at(s, at) {
-        Num::Value(n) => place_from(s, n, at + 4, i),
-        Num::Short => Parsed::Bad,
-    }
+    Places::after(s, Reference::Export, at).nth(i as usize)
 }

@@ -9,38 +9,29 @@ use crate::exports::{ExportFault, some_export};
 use crate::strings::strings_agree;
 use manifest_shape::Layout;
 use sizes::Size;
+use wire::number_at;
 
 pub mod content;
 pub mod exports;
+pub mod listed;
 pub mod strings;
 
 // 13: a fixed string or export abi differs, a capability is listed, or closure is 1.
+#[tactic(auto, unfolding(crate::specs::Judged::unsupported_at, lists::specs::Lists::any_of))]
 pub fn unsupported(s: &[u8], l: Layout) -> bool
     ensures { result ≡ unsupported_at s.now l }
 {
-    let strings = l.strings;
-    let exports = l.exports;
-    let capabilities = l.capabilities;
-    let closure = l.closure;
-    if !strings_agree(s, strings) {
-        return true;
-    }
-    if some_export(s, ExportFault::Abi, exports) {
-        return true;
-    }
-    if !Size::CAPABILITIES.allows(count_at(s, capabilities)) {
-        return true;
-    }
-    wire::u8_at(s, closure).or_zero() == 1
+    !strings_agree(s, l.strings)
+        || some_export(s, ExportFault::Abi, l.exports)
+        || !Size::CAPABILITIES.allows(count_at(s, l.capabilities))
+        || number_at::<1>(s, l.closure).unwrap_or(0) == 1
 }
 
 // 14: an export name is empty, over 64 bytes, or used twice.
+#[tactic(auto, unfolding(crate::specs::Judged::misnamed_at, lists::specs::Lists::any_of))]
 pub fn misnamed(s: &[u8], l: Layout) -> bool
     ensures { result ≡ misnamed_at s.now l }
 {
-    let exports = l.exports;
-    if some_export(s, ExportFault::NameSize, exports) {
-        return true;
-    }
-    some_export(s, ExportFault::NameTwice, exports)
+    some_export(s, ExportFault::NameSize, l.exports)
+        || some_export(s, ExportFault::NameTwice, l.exports)
 }

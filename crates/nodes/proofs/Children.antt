@@ -1,17 +1,18 @@
 -- Laws of records by their numbers: a record and its hash, a hash and its link, and the links of a record's children.
+use Rattle.std.specs.Prelude.{Option, Some, None}
 use Prim.Native.Nat.{ℕ, zero, suc, ◌+◌, ◌-◌, ◌*◌, ◌≤◌, ◌<◌}
 use mathlib.Core.Path.{◌≡◌, refl, sym, ap, ◌∙◌}
 use mathlib.Core.Bool.{Bool, true, false, cond}
 use mathlib.Core.Logic.{◌⊎◌, inl, inr, ⊎_elim}
 use mathlib.Core.List.{List, [], ◌∷◌}
 use native.Mathlib.Omega.{arith}
-use lib.ListN.{length, get_or}
+use native.Mathlib.Numerals.{add-one}
+use lib.ListN.{length, get_or, drop}
+use lib.Seq.{drop-cons}
 use lib.Dec.{eqb}
 use Rattle.wire.specs.Wire.{span}
 use Rattle.lists.specs.Lists.{index_of}
 use Rattle.lists.specs.Among.{Among, here, there, Distinct}
-use Rattle.lists.specs.declared.Found.{Found}
-use Rattle.lists.specs.declared.Found.TheVariants.{Index, Nothing}
 use Rattle.lists.proofs.Index.{among_index, index_among, distinct_index, index_is, index_none}
 use Rattle.sizes.specs.Sizes.{nodes_size}
 use Rattle.placing.specs.Placing.{Links}
@@ -41,6 +42,10 @@ hashes_at_lem [] i = refl
 hashes_at_lem (r ∷ rs) zero = refl
 hashes_at_lem (r ∷ rs) (suc i) = hashes_at_lem rs i
 
+-- the records from record i on, by the first of them
+pub record_next : (rs : List NodeRecord) (i : ℕ) → i < length rs → drop i rs ≡ at rs i ∷ drop (i + 1) rs
+record_next rs i l = rw add-one (drop-cons rs i (record { hash = []; payload = [] }) l)
+
 -- a record and its number
 pub number_of : {rs : List NodeRecord} {r : NodeRecord} → Among r rs → (i : ℕ) × (i < length rs) × (at rs i ≡ r)
 number_of = among_index (record { hash = []; payload = [] })
@@ -54,29 +59,29 @@ module _ (rs : List NodeRecord) (h : List ℕ) where
   unfolding link_of
   link_small = told (index_of h 0 (hashes rs)) refl
     where
-      told : (f : Found) → index_of h 0 (hashes rs) ≡ f → link_to f ≤ length rs
-      told (Index j) e = omega (arith, (index_is h 0 (hashes rs) j e).1, hashes_length rs)
-      told Nothing e = omega arith
+      told : (f : Option ℕ) → index_of h 0 (hashes rs) ≡ f → link_to f ≤ length rs
+      told (Some j) e = omega (arith, (index_is h 0 (hashes rs) j e).1, hashes_length rs)
+      told None e = omega arith
 
   pub link_hash : (j : ℕ) → link_of rs h ≡ j + 1 → (j < length rs) × (hash_at rs j ≡ h)
   unfolding link_of
   link_hash j = told (index_of h 0 (hashes rs)) refl
     where
-      told : (f : Found) → index_of h 0 (hashes rs) ≡ f → link_to f ≡ j + 1 → (j < length rs) × (hash_at rs j ≡ h)
-      told (Index k) q e =
+      told : (f : Option ℕ) → index_of h 0 (hashes rs) ≡ f → link_to f ≡ j + 1 → (j < length rs) × (hash_at rs j ≡ h)
+      told (Some k) q e =
           let (l, m, g) = index_is h 0 (hashes rs) k q in
           let z : k - 0 ≡ j = omega arith in
           (omega (arith, hashes_length rs), sym (hashes_at_lem rs j) ∙ rw (← z) g)
-      told Nothing q e = absurd (omega arith)
+      told None q e = absurd (omega arith)
 
   pub hash_link : Among h (hashes rs) → (j : ℕ) × (j < length rs) × (hash_at rs j ≡ h) × (link_of rs h ≡ j + 1)
   unfolding link_of
   hash_link a = told (index_of h 0 (hashes rs)) refl
     where
-      told : (f : Found) → index_of h 0 (hashes rs) ≡ f →
+      told : (f : Option ℕ) → index_of h 0 (hashes rs) ≡ f →
           (j : ℕ) × (j < length rs) × (hash_at rs j ≡ h) × (link_to f ≡ j + 1)
-      told (Index k) q = let (l, e) = link_hash k (ap link_to q) in (k, l, e, refl)
-      told Nothing q = absurd (index_none h 0 (hashes rs) q a)
+      told (Some k) q = let (l, e) = link_hash k (ap link_to q) in (k, l, e, refl)
+      told None q = absurd (index_none h 0 (hashes rs) q a)
 
 -- the links of record i
 module _ (all : List NodeRecord) where

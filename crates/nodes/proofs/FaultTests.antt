@@ -1,10 +1,11 @@
 -- What the tests of records mean: none has a fault exactly where each is right (16, 18), or where no hash comes again (17).
+use Rattle.std.specs.Prelude.{is_some}
 use Prim.Native.Nat.{ℕ}
 use mathlib.Core.Path.{◌≡◌, refl}
 use mathlib.Core.Bool.{Bool, true, false, cond}
 use mathlib.Core.Logic.{◌↔◌}
 use mathlib.Core.List.{List, [], ◌∷◌}
-use Rattle.lists.specs.Lists.{index_of, found}
+use Rattle.lists.specs.Lists.{index_of}
 use Rattle.lists.specs.Among.{Among, here, there, Distinct}
 use Rattle.lists.proofs.Same.{not_both, same_exactly}
 use Rattle.lists.proofs.Index.{found_among, among_found, repeats_exactly}
@@ -22,8 +23,8 @@ only_first false b e = not_both refl e
 module _ (all : List NodeRecord) where
   lacks_not : (hs : List (List ℕ)) → lacks all hs ≡ false → (h : List ℕ) → Among h hs → Among h (hashes all)
   unfolding lacks
-  lacks_not (g ∷ hs) e h here = found_among h 0 (hashes all) (only_first (found (index_of h 0 (hashes all))) _ e).0
-  lacks_not (g ∷ hs) e h (there a) = lacks_not hs (only_first (found (index_of g 0 (hashes all))) _ e).1 h a
+  lacks_not (g ∷ hs) e h here = found_among h 0 (hashes all) (only_first (is_some (index_of h 0 (hashes all))) _ e).0
+  lacks_not (g ∷ hs) e h (there a) = lacks_not hs (only_first (is_some (index_of g 0 (hashes all))) _ e).1 h a
   lacks_not [] e h x' = elim x' [ ]
 
   not_lacks : (hs : List (List ℕ)) → ((h : List ℕ) → Among h hs → Among h (hashes all)) → lacks all hs ≡ false

@@ -1,15 +1,12 @@
 -- Laws of a payload's children, by its length.
 use Prim.Native.Nat.{ℕ}
-use mathlib.Core.Path.{◌≡◌, refl}
+use mathlib.Core.Path.{◌≡◌}
 use mathlib.Core.List.{List, [], ◌∷◌}
-use mathlib.Core.Bool.{Bool, true, false, not, cond}
 use native.Mathlib.Omega.{arith}
 use borrow.Author.Tests.{eq-eqb, ne_eqb}
-use lib.Dec.{eqb}
 use lib.ListN.{length}
 use Rattle.wire.specs.Wire.{span}
-use Rattle.nodes.specs.Records.{NodeRecord, children_of}
-use Rattle.nodes.specs.Links.{second_link}
+use Rattle.nodes.specs.Records.{children_of}
 
 -- a and b stand for the spans that were read
 module _ (p : List ℕ) where
@@ -25,16 +22,3 @@ module _ (p : List ℕ) where
   pub children_none : (length p ≡ 33 → ⊥) → (length p ≡ 65 → ⊥) → children_of p ≡ []
   unfolding children_of
   children_none n m = rw (ne_eqb (length p) 33 n, ne_eqb (length p) 65 m)
-
-  pub no_second : (all : List NodeRecord) → (length p ≡ 65 → ⊥) → 0 ≡ second_link all (children_of p)
-  unfolding children_of second_link
-  no_second all m = rw (ne_eqb (length p) 65 m) (test (eqb (length p) 33))
-    where
-      test : (b : Bool) → 0 ≡ second_link all (cond b (span p 1 32 ∷ []) [])
-      test true = refl
-      test false = refl
-
--- the last child is looked for: b stands for the answer
-pub lacks_last : (b : Bool) {c : Bool} → b ≡ c → not b ≡ cond c false true
-lacks_last true e = rw (← e)
-lacks_last false e = rw (← e)

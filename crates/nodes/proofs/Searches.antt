@@ -1,58 +1,64 @@
--- Laws of a search by where the records start: a comparison of a hash, and a turn of the loop.
-use Prim.Native.Nat.{ℕ, ◌+◌, ◌≤◌, ◌<◌}
+-- Laws of a search for a record by its hash: by the numbers of the records, and by a walk over them.
+use Rattle.std.specs.Prelude.{Option, Some, None, is_some}
+use Rattle.std.specs.List.{find, range_with_len}
+use Rattle.std.specs.Option.{option_map}
+use Rattle.std.proofs.lemmas.Iterator.Adapters.{option_map_id}
+use Prim.Native.Nat.{ℕ, zero, suc, ◌+◌, ◌-◌, ◌≤◌, ◌<◌}
 use mathlib.Core.Path.{◌≡◌, refl, sym, ap, ◌∙◌}
 use mathlib.Core.List.{List, [], ◌∷◌}
-use mathlib.Core.Bool.{Bool, true, false}
+use mathlib.Core.Bool.{Bool, true, false, cond}
 use native.Mathlib.Omega.{arith}
-use lib.ListN.{length, drop, get_or, drop_of_length-le}
-use lib.Seq.{get_or-take, get_or-drop, ext_get_or}
+use lib.ListN.{length, drop, drop_of_length-le}
 use Rattle.wire.specs.Wire.{span}
-use Rattle.lists.specs.Lists.{same_bytes, index_of, found}
-use Rattle.lists.specs.declared.Found.TheVariants.{Index, Nothing}
-use Rattle.wire.proofs.Spans.{span_in, span_length}
-use Rattle.lists.proofs.Same.{same_true, same_differ}
-use Rattle.nodes.specs.Records.{records, hashes}
-use Rattle.nodes.specs.Starts.{Starts}
-use Rattle.nodes.proofs.StartTable.{node_first, start_hash}
-
--- the hash at a position, byte by byte
-module _ (s : List ℕ) (p : ℕ) (h : List ℕ) (room : p + 32 ≤ length s) where
-  span_byte : (k : ℕ) → k < 32 → get_or (span s p 32) k 0 ≡ get_or s (p + k) 0
-  span_byte k l = rw (← (span_in s p 32 room), get_or-take 32 (drop p s) k 0 l) (get_or-drop p s k 0)
-
-  pub hash_same : length h ≡ 32 → ((k : ℕ) → k < 32 → get_or s (p + k) 0 ≡ get_or h k 0) →
-      same_bytes (span s p 32) h ≡ true
-  hash_same l e =
-      let m = span_length s p 32 room in
-      same_true (ext_get_or 0 (span s p 32) h (m ∙ sym l) (λ k b. span_byte k (omega arith) ∙ e k (omega arith)))
-
-  pub hash_differs : (k : ℕ) → k < 32 → (get_or s (p + k) 0 ≡ get_or h k 0 → ⊥) → same_bytes (span s p 32) h ≡ false
-  hash_differs k l n =
-      same_differ (span s p 32) h (λ e. n (sym (span_byte k l) ∙ ap (λ (w : List ℕ). get_or w k 0) e))
+use Rattle.lists.specs.Lists.{same_bytes, index_of}
+use Rattle.nodes.specs.Records.{NodeRecord, record_end, records, hashes}
+use Rattle.nodes.specs.Starts.{nth_record}
+use Rattle.nodes.proofs.Children.{record_next}
+use Rattle.nodes.proofs.Walks.{records_on, records_past}
 
 -- whether something is found, however it is counted
-pub found_counted : (t : List ℕ) (i j : ℕ) (xs : List (List ℕ)) → found (index_of t i xs) ≡ found (index_of t j xs)
+pub found_counted : (t : List ℕ) (i j : ℕ) (xs : List (List ℕ)) → is_some (index_of t i xs) ≡ is_some (index_of t j xs)
 unfolding index_of
 found_counted t i j [] = refl
 found_counted t i j (x ∷ xs) = first (same_bytes x t) refl (found_counted t (i + 1) (j + 1) xs)
   where
-    first : (b : Bool) → same_bytes x t ≡ b → found (index_of t (i + 1) xs) ≡ found (index_of t (j + 1) xs) →
-        found (index_of t i (x ∷ xs)) ≡ found (index_of t j (x ∷ xs))
+    first : (b : Bool) → same_bytes x t ≡ b → is_some (index_of t (i + 1) xs) ≡ is_some (index_of t (j + 1) xs) →
+        is_some (index_of t i (x ∷ xs)) ≡ is_some (index_of t j (x ∷ xs))
     first true q e = rw q
     first false q e = rw q e
 
-module _ {s : List ℕ} {n : ℕ} {table : List ℕ} (t : Starts s n table) (h : List ℕ) (i : ℕ) where
-  pub search_none : n ≤ i → index_of h i (hashes (drop i (records s n 8))) ≡ Nothing
+-- by the numbers, from record i on
+abbrev pub has_hash : List NodeRecord → List ℕ → ℕ → Bool
+has_hash rs h k = same_bytes (nth_record rs k).hash h
+
+found_from : (rs : List NodeRecord) (h : List ℕ) (n i : ℕ) → n ≡ length rs - i →
+    find (has_hash rs h) (range_with_len i n) ≡ index_of h i (hashes (drop i rs))
+unfolding index_of hashes
+found_from rs h zero i e = rw (drop_of_length-le rs {i = i} (omega arith))
+found_from rs h (suc n) i e =
+    rw (record_next rs i (omega arith))
+    (ap (cond (has_hash rs h i) (Some i)) (found_from rs h n (i + 1) (omega arith)))
+
+pub search_from : (rs : List NodeRecord) (h : List ℕ) (n i : ℕ) (r : Option ℕ) → n ≡ length rs - i →
+    option_map (λ k. k) r ≡ find (has_hash rs h) (range_with_len i n) → r ≡ index_of h i (hashes (drop i rs))
+search_from rs h n i r e f = sym (option_map_id r) ∙ f ∙ found_from rs h n i e
+
+-- by a walk, where k of n are passed and the next one stands at p; x stands for its end, as the call answered it
+module _ (s h : List ℕ) (n k p : ℕ) (l : k < n) {x : Option ℕ} (e : x ≡ record_end s p) where
+  pub find_past : x ≡ None → index_of h k (hashes (records s (n - k) p)) ≡ None
   unfolding index_of hashes
-  search_none l = rw (drop_of_length-le (records s n 8) {i = i} (omega (arith, t.sized.all)))
+  find_past f = rw (records_past s n k p l e f)
 
-  -- b is whether record i has the hash
-  module _ (l : i < n) {b : Bool} (e : b ≡ same_bytes (span s (get_or table i 0) 32) h) where
-    pub search_hit : b ≡ true → index_of h i (hashes (drop i (records s n 8))) ≡ Index i
+  -- w is the record's hash, and t whether it is the one
+  module _ {q : ℕ} (f : x ≡ Some q) {w : List ℕ} (ew : w ≡ span s p 32) {t : Bool} (et : t ≡ same_bytes w h) where
+    pub find_hit : t ≡ true → index_of h k (hashes (records s (n - k) p)) ≡ Some k
     unfolding index_of hashes
-    search_hit f = rw (node_first t i l, start_hash t i l, ← e, f)
+    find_hit g = rw (records_on s n k p l e f, ← ew, ← et, g)
 
-    pub search_on : b ≡ false →
-        index_of h i (hashes (drop i (records s n 8))) ≡ index_of h (i + 1) (hashes (drop (i + 1) (records s n 8)))
+    pub find_on : t ≡ false → index_of h k (hashes (records s (n - k) p)) ≡ index_of h (k + 1) (hashes (records s (n - (k + 1)) q))
     unfolding index_of hashes
-    search_on f = rw (node_first t i l, start_hash t i l, ← e, f)
+    find_on g = rw (records_on s n k p l e f, ← ew, ← et, g)
+
+pub find_none : (s h : List ℕ) (n k p : ℕ) → n ≤ k → index_of h k (hashes (records s (n - k) p)) ≡ None
+unfolding index_of hashes records
+find_none s h n k p l = let z : n - k ≡ 0 = omega arith in rw z

@@ -1,15 +1,13 @@
 -- The children of records by their numbers, which is what placing works on; and 19.
-use Rattle.std.specs.Prelude.{ℕ, ◌+◌, ◌*◌, ◌≤◌, ◌≡◌, List, [], ◌∷◌, Bool, length, take, replicate, ltb}
+use Rattle.std.specs.Prelude.{ℕ, ◌+◌, ◌*◌, ◌≤◌, ◌≡◌, List, [], ◌∷◌, Bool, length, take, replicate, ltb, Option, Some, None}
 use Rattle.lists.specs.Lists.{index_of}
-use Rattle.lists.specs.declared.Found.{Found}
-use Rattle.lists.specs.declared.Found.TheVariants.{Index, Nothing}
 use Rattle.sizes.specs.Sizes.{nodes_size}
 use Rattle.placing.specs.Placing.{Placed, placed}
 use Rattle.nodes.specs.Records.{NodeRecord, first_record, children, hashes, records}
 
-abbrev pub link_to : Found → ℕ
-link_to (Index i) = i + 1
-link_to Nothing = 0
+abbrev pub link_to : Option ℕ → ℕ
+link_to (Some i) = i + 1
+link_to None = 0
 
 -- the number, plus one, of the record with a hash; 0 where there is none
 unfoldable pub link_of : List NodeRecord → List ℕ → ℕ

@@ -1,13 +1,14 @@
 -- The nodes section: a u64 count, then records, no byte left over. And what is refused of its records: 15 to 18.
-use Rattle.std.specs.Prelude.{ℕ, zero, suc, ◌+◌, ◌-◌, ◌*◌, List, [], ◌∷◌, ◌++◌, Bool, true, false, not, cond, length, leb, eqb}
-use Rattle.wire.specs.Wire.{number_at, span_end, span, on_pos, on_number, or_zero, ascii}
-use Rattle.lists.specs.Lists.{same_bytes, index_of, found, some_of}
-use Rattle.wire.specs.declared.Pos.{Pos}
-use Rattle.wire.specs.declared.Pos.TheVariants.{At, Past}
+use Rattle.std.specs.Prelude.{ℕ, zero, suc, ◌+◌, ◌-◌, ◌*◌, List, [], ◌∷◌, ◌++◌, Bool, true, false, not, cond, length, leb, eqb, Option, Some, None, is_some}
+use Rattle.lists.specs.Options.{◌>>=◌, on_some}
+use Rattle.wire.specs.Wire.{number_at, span_end, span, or_zero, ascii}
+use Rattle.lists.specs.Lists.{same_bytes, index_of, some_of}
 use Rattle.sha256_block.specs.Fips180.{sha256}
 use Rattle.sha256.specs.Running.{state_after}
 use Rattle.sha256.specs.declared.Running.{Running}
 use Rattle.sizes.specs.Sizes.{within, nodes_size, hash_bytes}
+use Rattle.nodes.specs.declared.records.Children.{Children}
+use Rattle.nodes.specs.declared.records.Children.TheVariants.{Leaf, Stem, Fork}
 use Rattle.nodes.specs.declared.faults.RecordFault.{RecordFault}
 use Rattle.nodes.specs.declared.faults.RecordFault.TheVariants.{Hash, Twice, Child}
 
@@ -30,33 +31,43 @@ children_of p =
     cond (eqb (length p) 33) (span p 1 hash_bytes ∷ [])
     (cond (eqb (length p) 65) (span p 1 hash_bytes ∷ span p 33 hash_bytes ∷ []) [])
 
+-- the hashes as the code reads them of a payload
+abbrev pub named_hashes : Children → List (List ℕ)
+named_hashes Leaf = []
+named_hashes (Stem a) = a.now ∷ []
+named_hashes (Fork a b) = a.now ∷ b.now ∷ []
+
 abbrev pub children : NodeRecord → List (List ℕ)
 children r = children_of r.payload
 
--- where the payload of n bytes at a position ends: a tag of 0, 1 or 2, and so many hashes; Past where it has another shape
-unfoldable pub payload_end : List ℕ → ℕ → ℕ → Pos
-payload_end s at n =
-    on_number (number_at 1 s at)
-    (λ tag. cond (leb tag 2) (cond (eqb n (hash_bytes * tag + 1)) (span_end s at n) Past) Past)
-    Past
+-- where the payload of n bytes at a position ends: a tag of 0, 1 or 2, and so many hashes; None where it has another shape
+unfoldable pub payload_end : List ℕ → ℕ → ℕ → Option ℕ
+payload_end s at n = do
+  tag ← number_at 1 s at
+  cond (leb tag 2) (cond (eqb n (hash_bytes * tag + 1)) (span_end s at n) None) None
 
 -- where the record at a position ends: 32-byte hash, u32 payload length, payload
-unfoldable pub record_end : List ℕ → ℕ → Pos
-record_end s at = on_pos (span_end s at hash_bytes) (λ p. on_number (number_at 4 s p) (λ n. payload_end s (p + 4) n) Past) Past
+unfoldable pub record_end : List ℕ → ℕ → Option ℕ
+record_end s at = do
+  length ← span_end s at hash_bytes
+  n ← number_at 4 s length
+  payload_end s (length + 4) n
 
 -- the record from a position up to its end
 abbrev pub record_at : List ℕ → ℕ → ℕ → NodeRecord
 record_at s at end = record { hash = span s at hash_bytes; payload = span s (at + record_head) (end - (at + record_head)) }
 
 -- where n records from a position on end
-unfoldable pub records_end : List ℕ → ℕ → ℕ → Pos
-records_end s zero at = At at
-records_end s (suc n) at = on_pos (record_end s at) (λ next. records_end s n next) Past
+unfoldable pub records_end : List ℕ → ℕ → ℕ → Option ℕ
+records_end s zero at = Some at
+records_end s (suc n) at = do
+  next ← record_end s at
+  records_end s n next
 
 -- the n records from a position on
 unfoldable pub records : List ℕ → ℕ → ℕ → List NodeRecord
 records s zero at = []
-records s (suc n) at = on_pos (record_end s at) (λ next. record_at s at next ∷ records s n next) []
+records s (suc n) at = on_some (record_end s at) (λ next. record_at s at next ∷ records s n next) []
 
 unfoldable pub count : List ℕ → ℕ
 count s = or_zero (number_at 8 s 0)
@@ -64,14 +75,14 @@ count s = or_zero (number_at 8 s 0)
 unfoldable pub nodes_of : List ℕ → List NodeRecord
 nodes_of s = records s (count s) first_record
 
-abbrev pub ends_at : Pos → ℕ → Bool
-ends_at (At end) n = eqb end n
-ends_at Past n = false
+abbrev pub ends_at : Option ℕ → ℕ → Bool
+ends_at (Some end) n = eqb end n
+ends_at None n = false
 
 -- 15: the nodes section doesn't have the stated shape, or count outside 1 to 512
 unfoldable pub shaped : List ℕ → Bool
 shaped s =
-    on_number (number_at 8 s 0) (λ n. cond (within nodes_size n) (ends_at (records_end s n first_record) (length s)) false) false
+    on_some (number_at 8 s 0) (λ n. cond (within nodes_size n) (ends_at (records_end s n first_record) (length s)) false) false
 
 -- SHA-256 of the 23 bytes `arboricx.merkle.node.v1`, a zero byte, the payload
 unfoldable pub node_hash : List ℕ → List ℕ
@@ -88,12 +99,12 @@ hashes (r ∷ rs) = r.hash ∷ hashes rs
 -- some hash of a list has no record
 unfoldable pub lacks : List NodeRecord → List (List ℕ) → Bool
 lacks all [] = false
-lacks all (h ∷ hs) = cond (found (index_of h 0 (hashes all))) (lacks all hs) true
+lacks all (h ∷ hs) = cond (is_some (index_of h 0 (hashes all))) (lacks all hs) true
 
 -- a record's hash is wrong (16); a record after it carries the same (17); a child has no record (18)
 unfoldable pub record_faulty : RecordFault → List NodeRecord → NodeRecord → List NodeRecord → Bool
 record_faulty Hash all r rest = not (same_bytes r.hash (node_hash r.payload))
-record_faulty Twice all r rest = found (index_of r.hash 0 (hashes rest))
+record_faulty Twice all r rest = is_some (index_of r.hash 0 (hashes rest))
 record_faulty Child all r rest = lacks all (children r)
 
 -- some record has the fault

@@ -1,15 +1,16 @@
 // What can be wrong with a record: 16, 17 and 18.
-ghost use Rattle.std.specs.Prelude.{◌≡◌, ◌+◌, ◌<◌, drop};
-ghost use Rattle.nodes.specs.Records.{children_of, records, nodes_of, count, domain_state, lacks, record_faulty, some_record, first_record};
-ghost use Rattle.nodes.specs.Starts.{Starts, nth_record};
+ghost use Rattle.std.specs.Prelude.{◌≡◌, ◌<◌};
+ghost use Rattle.nodes.specs.declared.faults.RecordFault.TheVariants.{Hash, Twice, Child};
+ghost use Rattle.nodes.specs.Records.{nodes_of, domain_state, some_record};
+ghost use Rattle.nodes.specs.Starts.{nth_faulty};
 
-use crate::find::has_from;
-use crate::records::{RECORD_HEAD, count, domain, node_hash, record_end};
+use crate::records::{Children, children_of, domain, node_hash};
+use crate::starts::Records;
+use lists::same_bytes;
 use sha256::Running;
-use sizes::HASH;
-use wire::Pos;
 
-#[derive(Clone, Copy)]
+// An enum, since the definitions and the promises name the faults.
+#[derive(Clone, Copy, Debug, PartialEq, Eq)]
 pub enum RecordFault {
     // The hash is wrong.
     Hash,
@@ -19,78 +20,49 @@ pub enum RecordFault {
     Child,
 }
 
-// Whether a child that a payload names is none of the n records.
-fn lacks_child(s: &[u8], starts: &[u32], n: usize, payload: &[u8]) -> bool
-    requires { Starts s.now n starts.now }
-    ensures { result ≡ lacks (records s.now n first_record) (children_of payload.now) }
-{
-    if payload.len() == 33 {
-        return !has_from(s, starts, 0, n, wire::span(payload, 1, HASH));
+impl Records<'_> {
+    // Whether record k's hash is wrong. The running hash after the domain is the same for all records.
+    #[tactic(auto, unfolding(crate::specs::Records::record_faulty))]
+    fn wrong_hash(&self, domain: Running, k: usize) -> bool
+        requires { (k < self.now.n) × (domain ≡ domain_state) }
+        ensures { result ≡ nth_faulty Hash (nodes_of self.now.section.now) k }
+    {
+        !same_bytes(self.hash(k), &node_hash(domain, self.payload(k)))
     }
-    if payload.len() == 65 {
-        if !has_from(s, starts, 0, n, wire::span(payload, 1, HASH)) {
-            return true;
+
+    // Whether a record after record k carries the same hash.
+    #[tactic(auto, unfolding(crate::specs::Records::record_faulty))]
+    fn comes_again(&self, k: usize) -> bool
+        requires { k < self.now.n }
+        ensures { result ≡ nth_faulty Twice (nodes_of self.now.section.now) k }
+    {
+        self.has_from(k + 1, self.hash(k))
+    }
+
+    // Whether a child that record k's payload names has no record.
+    #[tactic(auto, unfolding(crate::specs::Records::record_faulty, crate::specs::Records::lacks))]
+    fn lacks_child(&self, k: usize) -> bool
+        requires { k < self.now.n }
+        ensures { result ≡ nth_faulty Child (nodes_of self.now.section.now) k }
+    {
+        match children_of(self.payload(k)) {
+            Children::Leaf => false,
+            Children::Stem(a) => !self.has_from(0, a),
+            Children::Fork(a, b) => !(self.has_from(0, a) && self.has_from(0, b)),
         }
-        return !has_from(s, starts, 0, n, wire::span(payload, 33, HASH));
     }
-    false
-}
 
-// The running hash that the test of the hashes goes on from; the other tests hash nothing.
-fn begun(fault: RecordFault) -> Running
-    ensures { fault ≡ RecordFault.Hash → result ≡ domain_state }
-{
-    match fault {
-        RecordFault::Hash => domain(),
-        RecordFault::Twice => Running::new(),
-        RecordFault::Child => Running::new(),
-    }
-}
-
-// Whether record k of n has the fault.
-fn record_faulty(
-    s: &[u8],
-    starts: &[u32],
-    n: usize,
-    fault: RecordFault,
-    domain: Running,
-    k: usize,
-) -> bool
-    requires { Starts s.now n starts.now × (k < n) × (fault ≡ RecordFault.Hash → domain ≡ domain_state) }
-    ensures { result ≡ record_faulty fault (records s.now n first_record) (nth_record (records s.now n first_record) k)
-        (drop (k + 1) (records s.now n first_record)) }
-{
-    let p = starts[k] as usize;
-    match record_end(s, p) {
-        Pos::At(q) => {
-            let start = p + RECORD_HEAD;
-            let size = q - start;
-            match fault {
-                RecordFault::Hash => {
-                    let right = node_hash(domain, wire::span(s, start, size));
-                    !lists::same_bytes(wire::span(s, p, HASH), &right)
-                }
-                RecordFault::Twice => has_from(s, starts, k + 1, n, wire::span(s, p, HASH)),
-                RecordFault::Child => lacks_child(s, starts, n, wire::span(s, start, size)),
+    // Whether a record of the section has the fault.
+    pub fn some_record(&self, fault: RecordFault) -> bool
+        ensures { result ≡ some_record fault (nodes_of self.now.section.now) (nodes_of self.now.section.now) }
+    {
+        match fault {
+            RecordFault::Hash => {
+                let domain = domain();
+                (0..self.n).any(|k| self.wrong_hash(domain, k))
             }
+            RecordFault::Twice => (0..self.n).any(|k| self.comes_again(k)),
+            RecordFault::Child => (0..self.n).any(|k| self.lacks_child(k)),
         }
-        Pos::Past => false,
     }
-}
-
-// Whether a record of the section has the fault.
-pub fn some_record(s: &[u8], starts: &[u32], fault: RecordFault) -> bool
-    requires { Starts s.now (count s.now) starts.now }
-    ensures { result ≡ some_record fault (nodes_of s.now) (nodes_of s.now) }
-{
-    let n = count(s) as usize;
-    let start = begun(fault);
-    let mut k: usize = 0;
-    while k < n {
-        if record_faulty(s, starts, n, fault, start, k) {
-            return true;
-        }
-        k += 1;
-    }
-    false
 }

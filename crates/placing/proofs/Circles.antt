@@ -1,4 +1,5 @@
 -- Placing stops short exactly where a record is its own descendant.
+use Rattle.std.specs.Prelude.{None}
 use Prim.Native.Nat.{ℕ, zero, suc, ◌+◌, ◌-◌, ◌*◌, ◌≤◌, ◌<◌}
 use mathlib.Core.Path.{◌≡◌, sym, subst}
 use mathlib.Core.List.{List}
@@ -6,7 +7,6 @@ use mathlib.Core.Logic.{⊎_elim}
 use native.Mathlib.Omega.{arith}
 use native.Mathlib.Decide.{dec_lt}
 use lib.ListN.{get_or}
-use Rattle.lists.specs.declared.Found.TheVariants.{Nothing}
 use Rattle.placing.specs.Placing.{earliest, Placed, unplaced, placed}
 use Rattle.placing.specs.Circles.{ChildLink, first, second, Descends, child, deeper, LinkCircle, ShortExactlyOnCircles}
 use Rattle.placing.proofs.Views.{settled_not, ready_not, earliest_none}
@@ -40,7 +40,7 @@ module _ (L : List ℕ) (n : ℕ) (small : (k : ℕ) → k < 2 * n → get_or L 
       ]
 
   -- where placing is stuck, an unplaced record has an unplaced child
-  module _ (S : List ℕ) (stuck : earliest L S n 0 ≡ Nothing) where
+  module _ (S : List ℕ) (stuck : earliest L S n 0 ≡ None) where
     record Unplaced : Type 0 where
       pub num : ℕ
       pub inside : num < n
@@ -85,7 +85,7 @@ module _ (L : List ℕ) (n : ℕ) (small : (k : ℕ) → k < 2 * n → get_or L 
             subst (λ (x : ℕ). Descends L (walk t.a).num x) (sym t.same) (down t.a t.b t.earlier),
           )
 
-  short_circle : (p : Placed) → Laid L n p → earliest L p.slots n 0 ≡ Nothing → p.count < n → LinkCircle L n
+  short_circle : (p : Placed) → Laid L n p → earliest L p.slots n 0 ≡ None → p.count < n → LinkCircle L n
   short_circle p h stuck l =
       let g = tally_gap p.slots n (omega (arith, h.total)) in
       round p.slots stuck (record { num = g.0; inside = g.1; free = g.2 })

@@ -4,5 +4,4 @@ pub mod Tally
 pub mod Laid
 pub mod Pigeon
 pub mod Circles
-pub mod Links
 pub mod Turns

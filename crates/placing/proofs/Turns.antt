@@ -1,79 +1,39 @@
--- The turns of the two loops: the search one record on, and placing one step on.
+-- The search for the earliest by the numbers in turn, and placing one step on.
+use Rattle.std.specs.Prelude.{Option, Some, None}
 use Prim.Native.Nat.{ℕ, zero, suc, ◌+◌, ◌-◌, ◌≤◌, ◌<◌}
-use mathlib.Core.Path.{◌≡◌, refl, sym, ◌∙◌}
-use mathlib.Core.Bool.{Bool, true, false, cond}
+use mathlib.Core.Path.{◌≡◌, refl, sym, ap, ◌∙◌}
+use mathlib.Core.Bool.{cond}
 use mathlib.Core.List.{List}
 use native.Mathlib.Omega.{arith}
-use native.Mathlib.Nat.{sub-zero}
-use lib.ListN.{length, set, length-set}
-use Rattle.lists.specs.declared.Found.{Found}
-use Rattle.lists.specs.declared.Found.TheVariants.{Index, Nothing}
+use Rattle.std.specs.List.{find, range_with_len}
+use Rattle.std.specs.Option.{option_map}
+use Rattle.std.proofs.lemmas.Iterator.Adapters.{option_map_id}
 use Rattle.placing.specs.Placing.{ready, earliest, Placed, put, placing}
-use Rattle.placing.proofs.Views.{earliest_is}
 
--- the search of n records, from record i on
-module _ (L S : List ℕ) (n i : ℕ) where
-  module _ {b : Bool} (e : b ≡ ready L S i) (h : i < n) where
-    searched : (left : ℕ) → left ≡ n - i → earliest L S left i ≡ cond b (Index i) (earliest L S (n - (i + 1)) (i + 1))
-    unfolding earliest
-    searched zero m = absurd (omega arith)
-    searched (suc left) m = let d : n - (i + 1) ≡ left = omega arith in rw (d, e)
+-- the search goes over the numbers of the records in turn
+earliest_found : (L S : List ℕ) (n i : ℕ) → find (ready L S) (range_with_len i n) ≡ earliest L S n i
+unfolding earliest
+earliest_found L S zero i = refl
+earliest_found L S (suc n) i = ap (cond (ready L S i) (Some i)) (earliest_found L S n (i + 1))
 
-    pub next_hit : b ≡ true → earliest L S (n - i) i ≡ Index i
-    next_hit g = searched (n - i) refl ∙ rw g
+pub earliest_from : (L S : List ℕ) (n : ℕ) (r : Option ℕ) → option_map (λ i. i) r ≡ find (ready L S) (range_with_len 0 n) →
+    r ≡ earliest L S n 0
+earliest_from L S n r e = sym (option_map_id r) ∙ e ∙ earliest_found L S n 0
 
-    pub next_on : b ≡ false → earliest L S (n - i) i ≡ earliest L S (n - (i + 1)) (i + 1)
-    next_on g = searched (n - i) refl ∙ rw g
+-- with k of n records placed
+module _ (L S : List ℕ) (n k : ℕ) where
+  abbrev at : Placed
+  at = record { slots = S; count = k }
 
-  pub next_none : n ≤ i → earliest L S (n - i) i ≡ Nothing
-  unfolding earliest
-  next_none h = let d : n - i ≡ 0 = omega arith in rw d
-
-pub next_in : (L S : List ℕ) (n : ℕ) {r : Found} {i : ℕ} → r ≡ earliest L S n 0 → r ≡ Index i → i < n
-next_in L S n {r} {i} e f = omega (arith, (earliest_is L S n 0 i (sym e ∙ f)).1)
-
--- placing, from p on
-module _ (L : List ℕ) (n : ℕ) (p : Placed) where
-  module _ {r : Found} (e : r ≡ earliest L p.slots n 0) where
-    pub place_step : (m i : ℕ) → 0 < m → r ≡ Index i → placing m L n p ≡ placing (m - 1) L n (put p i)
+  module _ {r : Option ℕ} (e : r ≡ earliest L S n 0) where
+    pub place_next : {i : ℕ} → r ≡ Some i → k < n → placing (n - k) L n at ≡ placing (n - (k + 1)) L n (put at i)
     unfolding placing
-    place_step zero i h f = absurd (omega arith)
-    place_step (suc m) i h f = let k : suc m - 1 ≡ m = omega arith in rw (k, ← e, f)
+    place_next f l = let m : n - k ≡ suc (n - (k + 1)) = omega arith in rw (m, ← e, f)
 
-    pub place_stop : (m : ℕ) → r ≡ Nothing → placing m L n p ≡ p
+    pub place_stuck : r ≡ None → k < n → placing (n - k) L n at ≡ at
     unfolding placing
-    place_stop zero f = refl
-    place_stop (suc m) f = rw (← e, f)
+    place_stuck f l = let m : n - k ≡ suc (n - (k + 1)) = omega arith in rw (m, ← e, f)
 
-  pub place_none : (m : ℕ) → m ≤ 0 → placing m L n p ≡ p
+  pub place_last : n ≤ k → k ≤ n → placing (n - k) L n at ≡ record { slots = S; count = n }
   unfolding placing
-  place_none zero h = refl
-  place_none (suc m) h = absurd (omega arith)
-
--- k of n records are placed, and placing goes on from here as it does from the start
-pub record Spot (L : List ℕ) (n : ℕ) (S₀ S : List ℕ) (k : ℕ) : Type 0 where
-  pub most : k ≤ n
-  pub same : placing n L n (record { slots = S₀; count = 0 }) ≡ placing (n - k) L n (record { slots = S; count = k })
-  pub long : length S ≡ length S₀
-
-module _ (L : List ℕ) (n : ℕ) (S₀ : List ℕ) where
-  pub spot_first : Spot L n S₀ S₀ 0
-  spot_first = record { most = omega arith; same = rw sub-zero; long = refl }
-
-  module _ (S : List ℕ) (k : ℕ) (h : Spot L n S₀ S k) {r : Found} (e : r ≡ earliest L S n 0) where
-    pub spot_next : (i : ℕ) → k < n → r ≡ Index i → Spot L n S₀ (set S i (k + 1)) (k + 1)
-    unfolding put
-    spot_next i l f =
-        let d : n - (k + 1) ≡ n - k - 1 = omega arith in
-        record {
-          most = omega arith;
-          same = rw d (h.same ∙ place_step L n (record { slots = S; count = k }) e (n - k) i (omega arith) f);
-          long = simp length-set h.long;
-        }
-
-    pub spot_stuck : r ≡ Nothing → record { slots = S; count = k } ≡ placing n L n (record { slots = S₀; count = 0 })
-    spot_stuck f = sym (h.same ∙ place_stop L n _ e (n - k) f)
-
-  pub spot_last : (S : List ℕ) (k : ℕ) → Spot L n S₀ S k → n ≤ k →
-      record { slots = S; count = k } ≡ placing n L n (record { slots = S₀; count = 0 })
-  spot_last S k h l = sym (h.same ∙ place_none L n _ (n - k) (omega arith))
+  place_last l m = let e : k ≡ n = omega arith in let z : n - n ≡ 0 = omega arith in rw (e, z)

@@ -1,4 +1,5 @@
 -- What the tests of placing tell: of a link, of a record and its children, and of the search for the earliest.
+use Rattle.std.specs.Prelude.{Some, None}
 use Prim.Native.Nat.{ℕ, zero, suc, ◌+◌, ◌-◌, ◌*◌, ◌≤◌, ◌<◌}
 use mathlib.Core.Path.{◌≡◌, refl, subst}
 use mathlib.Core.Bool.{Bool, true, false, not, cond, true≢false, false≢true}
@@ -9,7 +10,6 @@ use native.Mathlib.Decide.{ℕ_discrete}
 use lib.ListN.{get_or}
 use lib.Dec.{eqb}
 use borrow.Author.Tests.{eq-eqb, ne_eqb, eqb-true, eqb-false, not-true, not-false}
-use Rattle.lists.specs.declared.Found.TheVariants.{Index, Nothing}
 use Rattle.placing.specs.Placing.{settled, ready, earliest}
 use Rattle.placing.specs.Circles.{ChildLink, first, second}
 
@@ -78,24 +78,24 @@ module _ (L S : List ℕ) (i : ℕ) where
 
 -- the earliest is ready, and where there is none, none is
 module _ (L S : List ℕ) where
-  pub earliest_is : (left i k : ℕ) → earliest L S left i ≡ Index k → (i ≤ k) × (k < i + left) × (ready L S k ≡ true)
+  pub earliest_is : (left i k : ℕ) → earliest L S left i ≡ Some k → (i ≤ k) × (k < i + left) × (ready L S k ≡ true)
   unfolding earliest
   earliest_is zero i k e = let z : ◌≡◌ {A = ℕ} 0 1 = cc in absurd (omega arith)
   earliest_is (suc left) i k e = go (ready L S i) refl e (earliest_is left (i + 1) k)
     where
-      go : (b : Bool) → ready L S i ≡ b → cond b (Index i) (earliest L S left (i + 1)) ≡ Index k →
-          (earliest L S left (i + 1) ≡ Index k → (i + 1 ≤ k) × (k < i + 1 + left) × (ready L S k ≡ true)) →
+      go : (b : Bool) → ready L S i ≡ b → cond b (Some i) (earliest L S left (i + 1)) ≡ Some k →
+          (earliest L S left (i + 1) ≡ Some k → (i + 1 ≤ k) × (k < i + 1 + left) × (ready L S k ≡ true)) →
           (i ≤ k) × (k < i + suc left) × (ready L S k ≡ true)
       go true q f ih = let g : i ≡ k = cc in (omega arith, omega arith, rw (← g) q)
       go false q f ih = let r = ih f in (omega arith, omega arith, r.2)
 
-  pub earliest_none : (left i : ℕ) → earliest L S left i ≡ Nothing → (k : ℕ) → i ≤ k → k < i + left → ready L S k ≡ false
+  pub earliest_none : (left i : ℕ) → earliest L S left i ≡ None → (k : ℕ) → i ≤ k → k < i + left → ready L S k ≡ false
   unfolding earliest
   earliest_none zero i e k a b = absurd (omega arith)
   earliest_none (suc left) i e k a b = go (ready L S i) refl e (λ f. earliest_none left (i + 1) f k)
     where
-      go : (t : Bool) → ready L S i ≡ t → cond t (Index i) (earliest L S left (i + 1)) ≡ Nothing →
-          (earliest L S left (i + 1) ≡ Nothing → i + 1 ≤ k → k < i + 1 + left → ready L S k ≡ false) → ready L S k ≡ false
+      go : (t : Bool) → ready L S i ≡ t → cond t (Some i) (earliest L S left (i + 1)) ≡ None →
+          (earliest L S left (i + 1) ≡ None → i + 1 ≤ k → k < i + 1 + left → ready L S k ≡ false) → ready L S k ≡ false
       go true q f ih = let z : ◌≡◌ {A = ℕ} 0 1 = cc in absurd (omega arith)
       go false q f ih =
           elim (ℕ_discrete i k) [
@@ -104,13 +104,13 @@ module _ (L S : List ℕ) where
           ]
 
   -- no record before the earliest is ready
-  pub earliest_first : (left i k : ℕ) → earliest L S left i ≡ Index k → (j : ℕ) → i ≤ j → j < k → ready L S j ≡ false
+  pub earliest_first : (left i k : ℕ) → earliest L S left i ≡ Some k → (j : ℕ) → i ≤ j → j < k → ready L S j ≡ false
   unfolding earliest
   earliest_first zero i k e j a b = let z : ◌≡◌ {A = ℕ} 0 1 = cc in absurd (omega arith)
   earliest_first (suc left) i k e j a b = go (ready L S i) refl e (λ f. earliest_first left (i + 1) k f j)
     where
-      go : (t : Bool) → ready L S i ≡ t → cond t (Index i) (earliest L S left (i + 1)) ≡ Index k →
-          (earliest L S left (i + 1) ≡ Index k → i + 1 ≤ j → j < k → ready L S j ≡ false) → ready L S j ≡ false
+      go : (t : Bool) → ready L S i ≡ t → cond t (Some i) (earliest L S left (i + 1)) ≡ Some k →
+          (earliest L S left (i + 1) ≡ Some k → i + 1 ≤ j → j < k → ready L S j ≡ false) → ready L S j ≡ false
       go true q f ih = let g : i ≡ k = cc in absurd (omega arith)
       go false q f ih =
           elim (ℕ_discrete i j) [

@@ -1,9 +1,7 @@
 -- The order in which records get slots: again and again, the earliest unplaced record whose children are all placed gets the
 -- next one. Records are numbers here. The children of record i stand in the words 2i and 2i + 1 of the links: 0 for none, else the
 -- number of the child's record plus one. A record's slot, plus one, stands in `slots` under its number; 0 while it is unplaced.
-use Rattle.std.specs.Prelude.{ℕ, zero, suc, ◌+◌, ◌-◌, ◌*◌, ◌≤◌, ◌<◌, List, Bool, true, false, not, cond, length, get_or, set, replicate, eqb}
-use Rattle.lists.specs.declared.Found.{Found}
-use Rattle.lists.specs.declared.Found.TheVariants.{Index, Nothing}
+use Rattle.std.specs.Prelude.{ℕ, zero, suc, ◌+◌, ◌-◌, ◌*◌, ◌≤◌, ◌<◌, List, Bool, true, false, not, cond, length, get_or, set, replicate, eqb, Option, Some, None}
 
 -- a link names no record, or a placed one
 unfoldable pub settled : List ℕ → ℕ → Bool
@@ -17,9 +15,9 @@ ready links slots i =
     false
 
 -- the earliest such record of the `left` from i on
-unfoldable pub earliest : List ℕ → List ℕ → ℕ → ℕ → Found
-earliest links slots zero i = Nothing
-earliest links slots (suc left) i = cond (ready links slots i) (Index i) (earliest links slots left (i + 1))
+unfoldable pub earliest : List ℕ → List ℕ → ℕ → ℕ → Option ℕ
+earliest links slots zero i = None
+earliest links slots (suc left) i = cond (ready links slots i) (Some i) (earliest links slots left (i + 1))
 
 -- the slots that records have, and how many are placed
 pub record Placed : Type 0 where
@@ -30,9 +28,9 @@ pub record Placed : Type 0 where
 unfoldable pub put : Placed → ℕ → Placed
 put p i = record { slots = set p.slots i (p.count + 1); count = p.count + 1 }
 
-abbrev pub on_next : Found → Placed → (ℕ → Placed) → Placed
-on_next (Index i) p f = f i
-on_next Nothing p f = p
+abbrev pub on_next : Option ℕ → Placed → (ℕ → Placed) → Placed
+on_next (Some i) p f = f i
+on_next None p f = p
 
 -- of n records, at most m more are placed
 unfoldable pub placing : ℕ → List ℕ → ℕ → Placed → Placed

@@ -12,10 +12,9 @@ use Rattle.table.proofs.SlotLaws.{room_most}
 use Rattle.engine.specs.declared.From.TheVariants.{Scratch}
 use Rattle.engine.proofs.AdmissionLaws.{clear_ready}
 use Rattle.applying.specs.declared.Progress.{Progress}
-use Rattle.applying.specs.declared.Applied.TheVariants.{Gave, Halted}
 use Rattle.applying.specs.Apply.{Came, came, apply}
 use Rattle.applying.proofs.Keeps.{Keeps, apply_keeps}
-use Rattle.plain.specs.declared.PlainAnswer.TheVariants.{Refused}
+use Rattle.std.specs.Prelude.{Ok, Err}
 use Rattle.plain.specs.Run.{Played, played, answered, plain_rows, plain_tail, played_with, plain_run}
 use Rattle.plain.specs.Named.{PlainSlotUsed, PlainSlotNamed}
 use Rattle.plain.proofs.CallWays.{plain_numbered, plain_slots}
@@ -24,13 +23,13 @@ abbrev Names : Played → Type 0
 Names (played w a) = PlainSlotUsed a
 
 answered_named : (fuel used : ℕ) (c : Came) → Keeps used c → Names (answered fuel c)
-answered_named fuel used (came w (Gave t p)) k = (omega (arith, k.slots.fits, room_most w), (_, refl, k.slot))
-answered_named fuel used (came w (Halted n p)) k = tt
+answered_named fuel used (came w (Ok (t, p))) k = (omega (arith, k.slots.fits, room_most w), (_, refl, k.slot))
+answered_named fuel used (came w (Err h)) k = tt
 
 tail_named : (w : List ℕ) (f x : ℤ) (used fuel places : ℕ) → Names (plain_tail w f x used fuel places)
 unfolding plain_tail
 tail_named w f x used fuel places =
-    by_answer (λ n. played w (Refused n)) _ Names (plain_rows w f x used fuel places) (plain_numbered w f x used fuel places) (λ n _ _. tt)
+    by_answer (λ n. played w (Err n)) _ Names (plain_rows w f x used fuel places) (plain_numbered w f x used fuel places) (λ n _ _. tt)
     (λ clear.
     let p : Progress = record { left = fuel; used = used } in
     let ready = clear_ready w f x used (plain_slots w f x used fuel places clear) Scratch in

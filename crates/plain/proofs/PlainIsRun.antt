@@ -15,7 +15,7 @@ use Rattle.table.proofs.BaseLaws.{from_through}
 use Rattle.frames.proofs.FrameLaws.{frame_room_long, length_cleared, zero_cleared}
 use Rattle.stepping.specs.declared.State.{State}
 use Rattle.engine.specs.declared.From.TheVariants.{Scratch}
-use Rattle.engine.specs.declared.RunAnswer.TheVariants as run
+use Rattle.engine.specs.declared.Ending.TheVariants as run
 use Rattle.stepping.specs.Step.{meet}
 use Rattle.stepping.specs.Ready.{Runnable}
 use Rattle.engine.specs.Admission.{slot_rows, run_rows}
@@ -23,9 +23,8 @@ use Rattle.engine.specs.Run.{Ran, ran, drive, state_from, run_tail, ran_with, ru
 use Rattle.stepping.proofs.Keeps.{waits_none}
 use Rattle.engine.proofs.AdmissionLaws.{clear_ready, run_numbered, run_slots}
 use Rattle.applying.specs.declared.Progress.{Progress}
-use Rattle.applying.specs.declared.Applied.TheVariants.{Gave, Halted}
 use Rattle.applying.specs.Apply.{Came, came, apply}
-use Rattle.plain.specs.declared.PlainAnswer.TheVariants.{Refused}
+use Rattle.std.specs.Prelude.{Ok, Err}
 use Rattle.plain.specs.Run.{played, answered, most_plain, too_deep, plain_rows, plain_tail, played_with, plain_run}
 use Rattle.plain.specs.Meaning.{shown, of_run, PlainIsRun}
 use Rattle.plain.proofs.CallWays.{deep_places}
@@ -35,8 +34,8 @@ use Rattle.plain.proofs.Sim.{plain_of, Set, Matches, state, simulates}
 matches_answered : (fuel places : ℕ) (j : List ℕ) (p : Progress) (c : Came) (r : Ran) → Matches fuel places 0 j p c r →
     answered fuel c ≡ plain_of r
 unfolding meet
-matches_answered fuel places j p (came w (Gave t q)) r m = rw m.same
-matches_answered fuel places j p (came w (Halted n q)) r m = m
+matches_answered fuel places j p (came w (Ok (t, q))) r m = rw m.same
+matches_answered fuel places j p (came w (Err h)) r m = m
 
 module _ (w j : List ℕ) (fuel : ℕ) (low : fuel ≤ most_plain) (few : frame_room j ≤ most_plain) where
   -- an application from scratch
@@ -66,7 +65,7 @@ module _ (w j : List ℕ) (fuel : ℕ) (low : fuel ≤ most_plain) (few : frame_
   unfolding plain_rows run_rows answer
   rows_same f x used =
       let none : answer ((49 when too_deep fuel (frame_room j)) ∷ []) ≡ answer []
-      = rw (← deep_places fuel (frame_room j) low, le-ltb most_plain (frame_room j) few)
+      = rw (deep_places fuel (frame_room j) low, le-ltb most_plain (frame_room j) few)
       in
       answers_joined (slot_rows w f x used) _ _ none
 
@@ -74,17 +73,17 @@ module _ (w j : List ℕ) (fuel : ℕ) (low : fuel ≤ most_plain) (few : frame_
   unfolding plain_tail run_tail
   tail_same f x used =
       rw (rows_same f x used)
-      (comes_through plain_of (answer (run_rows Scratch w f x used fuel j)) (λ n. ran w j (run.Refused n)) _
-      (λ n. played w (Refused n)) _ (λ n. refl)
+      (comes_through plain_of (answer (run_rows Scratch w f x used fuel j)) (λ n. ran w j (Err n)) _
+      (λ n. played w (Err n)) _ (λ n. refl)
       (λ z.
       let clear = answer_clear (run_rows Scratch w f x used fuel j) (run_numbered w f x used fuel j Scratch) (sym z) refl in
       scratch_same (state_from Scratch (named_slot f) (named_slot x) used)
       (clear_ready w f x used (run_slots w f x used fuel j Scratch clear) Scratch) refl))
 
 after_same : (before : List ℕ) (r : Ran) → played_with before (plain_of r) ≡ plain_of (ran_with before r)
-after_same before (ran w j (run.Refused n)) = refl
-after_same before (ran w j (run.Done slot steps used)) = refl
-after_same before (ran w j (run.Stopped n f x steps used waiting)) = refl
+after_same before (ran w j (Err n)) = refl
+after_same before (ran w j (Ok (run.Done slot steps used))) = refl
+after_same before (ran w j (Ok (run.Stopped why f x steps used waiting))) = refl
 
 -- for fuel and job room up to 1,000 the plain engine leaves and answers what the run call does
 pub plain_same : (w j : List ℕ) (base f x : ℤ) (used fuel : ℕ) → fuel ≤ most_plain → frame_room j ≤ most_plain →
@@ -96,9 +95,9 @@ plain_same w j base f x used fuel low few =
     ∙ after_same (take b w) (run_tail Scratch (drop b w) f x used fuel j))
 
 shown_same : (r : Ran) → shown (plain_of r) ≡ of_run r
-shown_same (ran w j (run.Refused n)) = refl
-shown_same (ran w j (run.Done slot steps used)) = refl
-shown_same (ran w j (run.Stopped n f x steps used waiting)) = refl
+shown_same (ran w j (Err n)) = refl
+shown_same (ran w j (Ok (run.Done slot steps used))) = refl
+shown_same (ran w j (Ok (run.Stopped why f x steps used waiting))) = refl
 
 pub plain_is_run : PlainIsRun plain_run
 plain_is_run w j base f x used fuel low few =

@@ -23,31 +23,32 @@ use Rattle.table.proofs.SoundLaws.{sound_next}
 use Rattle.frames.proofs.FrameLaws.{frame_room_long, length_put_frame, frame_here, length_drop}
 use Rattle.frames.proofs.FrameLaws.{zero_put, zero_over, zero_drop, frame_under, drop_under}
 use Rattle.stepping.specs.declared.State.{State}
-use Rattle.stepping.specs.declared.Status.{Status}
-use Rattle.stepping.specs.declared.Status.TheVariants.{Going, Done as IsDone, OutOfSlots, OutOfPlaces}
-use Rattle.engine.specs.declared.RunAnswer.TheVariants as run
+use Rattle.stepping.specs.declared.stops.Stop.TheVariants as stop
+use Rattle.stepping.specs.declared.Turn.{Turn}
+use Rattle.stepping.specs.declared.Turn.TheVariants.{Going, Done as IsDone, Stopped as IsStopped}
+use Rattle.engine.specs.declared.Ending.TheVariants as run
 use Rattle.stepping.specs.Rules.{Push}
 use Rattle.stepping.specs.Step.{Stepped, Met, met, beside, meet_frame, meet, carry, step}
 use Rattle.stepping.specs.Ready.{Waits}
 use Rattle.engine.specs.Run.{Ran, ran, finished, resume, drive}
 use Rattle.stepping.proofs.Keeps.{waits_more, waits_put}
 use Rattle.applying.specs.declared.Progress.{Progress}
-use Rattle.applying.specs.declared.Applied.TheVariants.{Gave, Halted}
 use Rattle.applying.specs.declared.Task.{Task}
 use Rattle.applying.specs.declared.Task.TheVariants.{Make, Give, Go, Both, Then}
 use Rattle.applying.specs.Rules.{rule}
-use Rattle.applying.specs.Apply.{Came, came, applied_then, spend, grow, make, carry_out, apply}
+use Rattle.applying.specs.Apply.{stopped_at, Came, came, applied_then, spend, grow, make, carry_out, apply}
 use Rattle.applying.specs.Fit.{TaskNames}
 use Rattle.applying.proofs.RuleLaws.{action, same_rule, rule_names}
 use Rattle.applying.proofs.Depth.{apply_none, apply_some}
-use Rattle.plain.specs.declared.PlainAnswer.TheVariants.{Refused, Done, Stopped}
+use Rattle.std.specs.Prelude.{Ok, Err}
+use Rattle.plain.specs.declared.PlainEnding.TheVariants.{Done, Stopped}
 use Rattle.plain.specs.Run.{Played, played, answered}
 
 -- what a plain run tells of what a run leaves and answers
 abbrev pub plain_of : Ran → Played
-plain_of (ran w j (run.Refused n)) = played w (Refused n)
-plain_of (ran w j (run.Done slot steps used)) = played w (Done slot steps used)
-plain_of (ran w j (run.Stopped n f x steps used waiting)) = played w (Stopped n steps used)
+plain_of (ran w j (Err n)) = played w (Err n)
+plain_of (ran w j (Ok (run.Done slot steps used))) = played w (Ok (Done slot steps used))
+plain_of (ran w j (Ok (run.Stopped why f x steps used waiting))) = played w (Ok (Stopped why steps used))
 
 -- ---- frames that come and go
 
@@ -88,15 +89,14 @@ module _ (j : List ℕ) (i : ℕ) where
 
 -- ---- a step that gives or makes a tree
 
--- slot t met the newest frame, and the run goes on with fuel n, k steps on
-abbrev settled_as : ℕ → ℕ → List ℕ → List ℕ → State → Status → Ran
-settled_as n k w j s Going = drive n k w j s
-settled_as n k w j s IsDone = ran w j (finished s k)
-settled_as n k w j s OutOfSlots = ran w j (finished s k)
-settled_as n k w j s OutOfPlaces = ran w j (finished s k)
+-- slot t met the newest frame, which stops no run, and the run goes on with fuel n, k steps on
+abbrev settled_as : ℕ → ℕ → List ℕ → List ℕ → Turn → Ran
+settled_as n k w j (Going s) = drive n k w j s
+settled_as n k w j (IsDone t used) = ran w j (Ok (finished t k used))
+settled_as n k w j (IsStopped why) = ran w j (Err 0)
 
 abbrev settled : ℕ → ℕ → List ℕ → Met → Ran
-settled n k w (met j t) = settled_as n k w j t.state t.status
+settled n k w (met j t) = settled_as n k w j t
 
 module _ (n k : ℕ) (w j : List ℕ) (t : Slot) (used : ℕ) (s : State) where
   frame_settles : (i : ℕ) (f : Frame) →
@@ -153,8 +153,8 @@ module _ (fuel places : ℕ) where
 
   -- what an application comes to, and what the run comes to
   abbrev pub Matches : ℕ → List ℕ → Progress → Came → Ran → Type 0
-  Matches waiting j p (came w (Gave t q)) r = Gives waiting j p w t q r
-  Matches waiting j p (came w (Halted n q)) r = answered fuel (came w (Halted n q)) ≡ plain_of r
+  Matches waiting j p (came w (Ok (t, q))) r = Gives waiting j p w t q r
+  Matches waiting j p (came w (Err h)) r = answered fuel (came w (Err h)) ≡ plain_of r
 
   abbrev pub Simulates : ℕ → Type 0
   Simulates d =
@@ -187,16 +187,16 @@ module _ (fuel places : ℕ) where
   -- what matches later on matches from here
   later_matches : (i : ℕ) (w j : List ℕ) (p q : Progress) (c : Came) (r : Ran) → Later p w q → Matches i j q c r →
       Matches i j p c r
-  later_matches i w j p q (came v (Gave t s)) r l m =
+  later_matches i w j p q (came v (Ok (t, s))) r l m =
       record { same = m.same; slot = m.slot; later = later_on p q s w v l m.later }
-  later_matches i w j p q (came v (Halted n s)) r l m = m
+  later_matches i w j p q (came v (Err h)) r l m = m
 
   -- a stop is passed on; what is given goes on
   bind : (i i' : ℕ) (j j' : List ℕ) (p p' : Progress) (c : Came) (next : List ℕ → Slot → Progress → Came) (r : Ran) →
       Matches i' j' p' c r → ((w : List ℕ) (t : Slot) (q : Progress) → Gives i' j' p' w t q r → Matches i j p (next w t q) r) →
       Matches i j p (applied_then c next) r
-  bind i i' j j' p p' (came w (Gave t q)) next r m k = k w t q m
-  bind i i' j j' p p' (came w (Halted n q)) next r m k = m
+  bind i i' j j' p p' (came w (Ok (t, q))) next r m k = k w t q m
+  bind i i' j j' p p' (came w (Err h)) next r m k = m
 
   -- a frame that stands at place i is met
   module _ (i : ℕ) (j m : List ℕ) (t : Topped j i m) (h : i < frame_room j) (z : ZeroFrom j i) (w : List ℕ) (u : Slot)
@@ -330,7 +330,7 @@ module _ (fuel places : ℕ) where
         -- a frame waits, or there is no place left for it
         waits : (k : Frame) (g y : Slot) (c : Came) →
             (i < places → i < frame_room j → Matches i j p c (runs (i + 1) w (put_frame j i k) g y (spend p))) →
-            Matches i j p (cond (ltb i places) c (came w (Halted 33 p))) (turn (carry w j s (Push g y k)))
+            Matches i j p (cond (ltb i places) c (came w (stopped_at stop.OutOfPlaces p))) (turn (carry w j s (Push g y k)))
         unfolding carry
         waits k g y c m =
             elim (dec_lt i places) [

@@ -14,29 +14,29 @@ use Rattle.refusals.specs.Refusals.{Row, ◌when◌, answer}
 use Rattle.refusals.proofs.Rows.{answer_clear, refused_first, passed_first}
 use Rattle.table.proofs.BaseLaws.{from_through}
 use Rattle.engine.specs.declared.From.TheVariants.{Scratch}
-use Rattle.engine.specs.declared.RunAnswer.TheVariants as run
+use Rattle.engine.specs.declared.Ending.TheVariants as run
 use Rattle.engine.specs.Admission.{slot_rows, run_rows}
 use Rattle.engine.specs.Run.{Ran, ran, drive, run_tail, ran_with, run_from}
 use Rattle.engine.proofs.AdmissionLaws.{slot_numbered}
-use Rattle.plain.specs.declared.PlainAnswer.TheVariants.{Refused}
+use Rattle.std.specs.Prelude.{Ok, Err}
 use Rattle.plain.specs.Run.{Played, played, most_plain, too_deep, plain_rows, plain_tail, played_with, plain_run}
 use Rattle.plain.proofs.CallWays.{deep_fuel, deep_places}
 
 -- what refuses a run refuses; 49 where it would start
 abbrev pub deep_of : List ℕ → Ran → Played
-deep_of w (ran v j (run.Refused n)) = played w (Refused n)
-deep_of w (ran v j (run.Done slot steps used)) = played w (Refused 49)
-deep_of w (ran v j (run.Stopped n f x steps used waiting)) = played w (Refused 49)
+deep_of w (ran v j (Err n)) = played w (Err n)
+deep_of w (ran v j (Ok (run.Done slot steps used))) = played w (Err 49)
+deep_of w (ran v j (Ok (run.Stopped why f x steps used waiting))) = played w (Err 49)
 
 module _ (fuel places : ℕ) (deep : (most_plain < fuel) ⊎ (most_plain < places)) where
   -- either test finds it
   is_deep : too_deep fuel places ≡ true
   is_deep =
       elim (dec_lt most_plain fuel) [
-        | yes h ↦ sym (deep_fuel fuel places h)
+        | yes h ↦ deep_fuel fuel places h
         | no h ↦
             let l : most_plain < places = ⊎_elim (λ g. absurd (h g)) (λ g. g) deep in
-            sym (deep_places fuel places (omega (arith, h))) ∙ lt-ltb most_plain places l
+            deep_places fuel places (omega (arith, h)) ∙ lt-ltb most_plain places l
       ]
 
   -- so that 49 is answered where no slot's row is
@@ -62,9 +62,9 @@ module _ (fuel places : ℕ) (deep : (most_plain < fuel) ⊎ (most_plain < place
     tail_deep = by_slots (eqb (answer rows) 0) refl
 
   after_deep : (w : List ℕ) (b : ℕ) (r : Ran) → played_with (take b w) (deep_of (drop b w) r) ≡ deep_of w (ran_with (take b w) r)
-  after_deep w b (ran v j (run.Refused n)) = rw (take-append-drop b w)
-  after_deep w b (ran v j (run.Done slot steps used)) = rw (take-append-drop b w)
-  after_deep w b (ran v j (run.Stopped n f x steps used waiting)) = rw (take-append-drop b w)
+  after_deep w b (ran v j (Err n)) = rw (take-append-drop b w)
+  after_deep w b (ran v j (Ok (run.Done slot steps used))) = rw (take-append-drop b w)
+  after_deep w b (ran v j (Ok (run.Stopped why f x steps used waiting))) = rw (take-append-drop b w)
 
   pub plain_deep : (w : List ℕ) (base f x : ℤ) (used : ℕ) →
       plain_run w base f x used fuel places ≡ deep_of w (run_from Scratch w base f x used 0 [])

@@ -1,7 +1,12 @@
--- The paper's numbers for each answer of the plain engine.
-use Rattle.std.specs.Prelude.{ℕ, ℤ, pos}
-use Rattle.plain.specs.declared.PlainAnswer.{PlainAnswer}
-use Rattle.plain.specs.declared.PlainAnswer.TheVariants.{Refused, Done, Stopped}
+-- What the plain engine answers, and the paper's numbers for each case.
+use Rattle.std.specs.Prelude.{ℕ, ℤ, pos, Result, Ok, Err}
+use Rattle.stepping.specs.Stops.{stops_with}
+use Rattle.plain.specs.declared.PlainEnding.{PlainEnding}
+use Rattle.plain.specs.declared.PlainEnding.TheVariants.{Done, Stopped}
+
+-- how the plain run ends, or the number that it is refused with
+abbrev pub PlainAnswer : Type 0
+PlainAnswer = Result PlainEnding ℕ
 
 pub record PlainNumbers : Type 0 where
   pub number : ℕ
@@ -11,6 +16,6 @@ pub record PlainNumbers : Type 0 where
 
 -- numbers not named are 0; `slot` is the result's
 abbrev pub plain_numbers : PlainAnswer → PlainNumbers
-plain_numbers (Refused n) = record { number = n; slot = pos 0; steps = 0; used = 0 }
-plain_numbers (Done slot steps used) = record { number = 0; slot = slot; steps = steps; used = used }
-plain_numbers (Stopped n steps used) = record { number = n; slot = pos 0; steps = steps; used = used }
+plain_numbers (Err n) = record { number = n; slot = pos 0; steps = 0; used = 0 }
+plain_numbers (Ok (Done slot steps used)) = record { number = 0; slot = slot; steps = steps; used = used }
+plain_numbers (Ok (Stopped why steps used)) = record { number = stops_with why; slot = pos 0; steps = steps; used = used }

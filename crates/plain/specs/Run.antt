@@ -1,23 +1,26 @@
 -- The plain engine's call: what it answers, and every word that it leaves in the table.
-use Rattle.std.specs.Prelude.{ℕ, ◌-◌, Bool, List, [], ◌∷◌, ◌++◌, ltb, ℤ, pos}
+use Rattle.std.specs.Prelude.{ℕ, ◌-◌, Bool, List, [], ◌∷◌, ◌++◌, ltb, ℤ, pos, Ok, Err}
 use Rattle.lists.specs.Lists.{any_of}
 use Rattle.refusals.specs.Refusals.{Row, ◌when◌, answer, unless_refused}
 use Rattle.table.specs.Base.{from_base}
 use Rattle.table.specs.Slots.{named_slot}
 use Rattle.engine.specs.Admission.{slot_rows}
-use Rattle.applying.specs.declared.Applied.TheVariants.{Gave, Halted}
-use Rattle.applying.specs.Apply.{Came, came, apply}
-use Rattle.plain.specs.declared.PlainAnswer.{PlainAnswer}
-use Rattle.plain.specs.declared.PlainAnswer.TheVariants.{Refused, Done, Stopped}
+use Rattle.applying.specs.Apply.{Applied, Came, came, apply}
+use Rattle.plain.specs.declared.PlainEnding.{PlainEnding}
+use Rattle.plain.specs.declared.PlainEnding.TheVariants.{Done, Stopped}
+use Rattle.plain.specs.Answer.{PlainAnswer}
 
 -- the word table at exit, and the answer
 pub data Played : Type 0 where
   played : List ℕ → PlainAnswer → Played
 
 -- the steps are the fuel less what is left of it
+abbrev pub ended_by : ℕ → Applied → PlainEnding
+ended_by fuel (Ok (t, p)) = Done (pos t.0) (fuel - p.left) p.used
+ended_by fuel (Err h) = Stopped h.why (fuel - h.at.left) h.at.used
+
 abbrev pub answered : ℕ → Came → Played
-answered fuel (came w (Gave t p)) = played w (Done (pos t.0) (fuel - p.left) p.used)
-answered fuel (came w (Halted n p)) = played w (Stopped n (fuel - p.left) p.used)
+answered fuel (came w a) = played w (Ok (ended_by fuel a))
 
 -- the most fuel, and the most places for jobs, for the stack's sake: each step may go a level deeper
 abbrev pub most_plain : ℕ
@@ -34,7 +37,7 @@ plain_rows w f x used fuel places = slot_rows w f x used ++ ((49 when too_deep f
 -- on the part of the table that is ours: a refusal changes nothing
 unfoldable pub plain_tail : List ℕ → ℤ → ℤ → ℕ → ℕ → ℕ → Played
 plain_tail w f x used fuel places =
-    unless_refused (answer (plain_rows w f x used fuel places)) (λ n. played w (Refused n))
+    unless_refused (answer (plain_rows w f x used fuel places)) (λ n. played w (Err n))
     (answered fuel (apply fuel places 0 w (named_slot f) (named_slot x) (record { left = fuel; used = used })))
 
 abbrev pub played_with : List ℕ → Played → Played
@@ -43,4 +46,4 @@ played_with before (played w a) = played (before ++ w) a
 -- 21: base negative or past the end of the table
 unfoldable pub plain_run : List ℕ → ℤ → ℤ → ℤ → ℕ → ℕ → ℕ → Played
 plain_run w base f x used fuel places =
-    from_base w base (played w (Refused 21)) (λ before part. played_with before (plain_tail part f x used fuel places))
+    from_base w base (played w (Err 21)) (λ before part. played_with before (plain_tail part f x used fuel places))

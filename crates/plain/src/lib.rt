@@ -1,42 +1,52 @@
 // The plain engine, to compare the run call with: what refuses a run of it, and one application on the stack.
 #![tactic(auto)]
 
-ghost use Rattle.std.specs.Prelude.{◌≡◌, List, ℕ};
+ghost use Rattle.std.specs.Prelude.{◌≡◌};
+ghost use Rattle.refusals.specs.Numbers.{by_number, answer_of};
 ghost use Rattle.refusals.specs.Refusals.{answer};
-ghost use Rattle.applying.specs.Apply.{came};
 ghost use Rattle.applying.specs.Fit.{Ends};
-ghost use Rattle.plain.specs.Run.{played, answered, too_deep, plain_rows, plain_tail, plain_run};
+ghost use Rattle.plain.specs.Run.{played, ended_by, too_deep, plain_rows, plain_tail, plain_run};
 
-use applying::{Applied, Progress, apply};
+use applying::{Halt, Progress, apply};
 use engine::admission::slot_refusal;
-use table::base::Base;
+use refusals::Refusal;
+use stepping::stops::Stop;
+use table::base::base_of;
 use table::slots::Slot;
 
-// What the plain engine answers; specs/Answer.antt gives the paper's numbers for each case.
-#[derive(Clone, Copy)]
-pub enum PlainAnswer {
-    // By 21, 23, 24 or 49.
-    Refused(u32),
+// How a plain run that was let start ends; specs/Answer.antt gives the paper's numbers for each case.
+#[derive(Clone, Copy, Debug, PartialEq, Eq)]
+pub enum PlainEnding {
     Done { slot: i32, steps: u32, used: u32 },
-    // By 31, 32 or 33.
-    Stopped { number: u32, steps: u32, used: u32 },
+    Stopped { why: Stop, steps: u32, used: u32 },
 }
 
-// The answer of an application that began with so much fuel.
-fn answered(fuel: u32, end: Applied) -> PlainAnswer
+// What is asked of a plain run on our part of the table: f to be applied to x, how many slots are used, an allowance of steps, and
+// places for so many jobs.
+#[derive(Clone, Copy)]
+struct Request {
+    f: i32,
+    x: i32,
+    used: u32,
+    fuel: u32,
+    places: u32,
+}
+
+// By an application that began with so much fuel.
+fn ended_by(fuel: u32, end: Result<(Slot, Progress), Halt>) -> PlainEnding
     requires { Ends fuel end }
-    ensures { (w : List ℕ) → played w result ≡ answered fuel (came w end) }
+    ensures { result ≡ ended_by fuel end }
 {
     match end {
-        Applied::Gave(t, p) => PlainAnswer::Done {
+        Ok((t, p)) => PlainEnding::Done {
             slot: t.number(),
             steps: fuel - p.left,
             used: p.used,
         },
-        Applied::Halted(number, p) => PlainAnswer::Stopped {
-            number,
-            steps: fuel - p.left,
-            used: p.used,
+        Err(Halt { why, at }) => PlainEnding::Stopped {
+            why,
+            steps: fuel - at.left,
+            used: at.used,
         },
     }
 }
@@ -45,44 +55,49 @@ fn answered(fuel: u32, end: Applied) -> PlainAnswer
 const DEEPEST: u32 = Progress::MOST;
 
 // Whether fuel or places for jobs are more.
+#[tactic(auto, unfolding(crate::specs::Run::too_deep, lists::specs::Lists::any_of))]
 fn too_deep(fuel: u32, places: u32) -> bool
     ensures { result ≡ too_deep fuel places }
 {
-    if fuel > DEEPEST {
-        return true;
-    }
-    places > DEEPEST
+    fuel > DEEPEST || places > DEEPEST
 }
 
-// What refuses a plain run, or 0.
-fn refusal(words: &[u32], f: i32, x: i32, used: u32, fuel: u32, places: u32) -> u32
-    ensures { result ≡ answer (plain_rows words.now f x used fuel places) }
+// What refuses a plain run.
+#[tactic(auto, unfolding(crate::specs::Run::plain_rows, engine::specs::Admission::slot_rows, refusals::specs::Refusals::answer))]
+fn refusal(words: &[u32], asked: Request) -> Result<(), Refusal>
+    ensures { answer_of result ≡ answer (plain_rows words.now asked.f asked.x asked.used asked.fuel asked.places) }
 {
-    let number = slot_refusal(words, f, x, used);
-    if number != 0 {
-        return number;
+    slot_refusal(words, asked.f, asked.x, asked.used)?;
+    if too_deep(asked.fuel, asked.places) {
+        return Err(Refusal::TooDeep);
     }
-    if too_deep(fuel, places) {
-        return 49;
-    }
-    0
+    Ok(())
 }
 
 // The plain run on the part of the table that is ours.
-fn plain_tail(words: &mut [u32], f: i32, x: i32, used: u32, fuel: u32, places: u32) -> PlainAnswer
-    ensures { played words.new result ≡ plain_tail words.old f x used fuel places }
+#[tactic(auto, unfolding(crate::specs::Run::plain_tail))]
+fn plain_tail(words: &mut [u32], asked: Request) -> Result<PlainEnding, Refusal>
+    ensures { played words.new (by_number result) ≡ plain_tail words.old asked.f asked.x asked.used asked.fuel asked.places }
 {
-    let number = refusal(words, f, x, used, fuel, places);
-    if number != 0 {
-        return PlainAnswer::Refused(number);
-    }
-    let p = Progress { left: fuel, used };
-    let end = apply(words, Slot::named(f), Slot::named(x), p, 0, places);
-    answered(fuel, end)
+    refusal(words, asked)?;
+    let p = Progress {
+        left: asked.fuel,
+        used: asked.used,
+    };
+    let end = apply(
+        words,
+        Slot::named(asked.f),
+        Slot::named(asked.x),
+        p,
+        0,
+        asked.places,
+    );
+    Ok(ended_by(asked.fuel, end))
 }
 
 // Applies slot f to slot x of the table that starts at word base, of which `used` slots are used, with an allowance of steps and
-// places for so many jobs.
+// places for so many jobs. Refused by 21, 23, 24 or 49. What is asked stays single numbers, as the call for C has them.
+#[tactic(auto, unfolding(crate::specs::Run::plain_run, table::specs::Base::from_base, table::specs::Base::base_of))]
 pub fn run(
     words: &mut [u32],
     base: i32,
@@ -91,11 +106,18 @@ pub fn run(
     used: u32,
     fuel: u32,
     places: u32,
-) -> PlainAnswer
-    ensures { played words.new result ≡ plain_run words.old base f x used fuel places }
+) -> Result<PlainEnding, Refusal>
+    ensures { played words.new (by_number result) ≡ plain_run words.old base f x used fuel places }
 {
-    match Base::of(base, words.len()) {
-        Base::Outside => PlainAnswer::Refused(21),
-        Base::At(at) => plain_tail(&mut words[at..], f, x, used, fuel, places),
+    let asked = Request {
+        f,
+        x,
+        used,
+        fuel,
+        places,
+    };
+    match base_of(base, words.len()) {
+        None => Err(Refusal::NoRoom),
+        Some(at) => plain_tail(&mut words[at..], asked),
     }
 }

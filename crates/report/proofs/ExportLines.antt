@@ -1,4 +1,5 @@
 -- The lines of the exports of a sound bundle: a line more, and that all fit.
+use Rattle.std.specs.Prelude.{Result, Err}
 use Prim.Native.Nat.{ℕ, ◌+◌, ◌≤◌, ◌<◌}
 use mathlib.Core.Path.{◌≡◌, ap, ◌∙◌}
 use mathlib.Core.List.{List, [], ◌++◌}
@@ -12,8 +13,7 @@ use Rattle.manifest.specs.Judged.{export_place}
 use Rattle.manifest.proofs.Names.{names_length}
 use Rattle.manifest.proofs.Counted.{few_exports}
 use Rattle.container.specs.Directory.{manifest_section}
-use Rattle.bundle.specs.declared.Verdict.{Verdict}
-use Rattle.bundle.specs.declared.Verdict.TheVariants.{Refused}
+use Rattle.bundle.specs.declared.Outline.{Outline}
 use Rattle.bundle.specs.Verdict.{described}
 use Rattle.bundle.specs.Exports.{name_at}
 use Rattle.bundle.proofs.Stages.{names_of_all}
@@ -59,8 +59,8 @@ module _ {file slots : List ℕ} {count : ℕ} (x : Exported file slots count) {
   line_put a b = rw more (then a b)
 
 -- the check finds what it has; v stands for what it came to
-pub undescribed : {A : Type 0} {file slots : List ℕ} {count : ℕ} → Exported file slots count → {v : Verdict} → v ≡ described file →
-    {n : ℕ} → v ≡ Refused n → A
+pub undescribed : {A : Type 0} {file slots : List ℕ} {count : ℕ} → Exported file slots count → {v : Result Outline ℕ} → v ≡ described file →
+    {n : ℕ} → v ≡ Err n → A
 undescribed {file = file} x e f =
     let (k, some) = described_refused file e f in absurd (some (k ∙ names_of_all file x.clear))
 

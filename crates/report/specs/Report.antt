@@ -1,7 +1,6 @@
 -- The text of a load's answer.
-use Rattle.std.specs.Prelude.{ℕ, List, [], ◌∷◌, ◌++◌, length, take}
+use Rattle.std.specs.Prelude.{ℕ, List, [], ◌∷◌, ◌++◌, length, take, Ok, Err}
 use Rattle.wire.specs.Wire.{ascii}
-use Rattle.loader.specs.declared.LoadAnswer.TheVariants.{Refused, Accepted}
 use Rattle.loader.specs.Load.{Loaded, loaded}
 use Rattle.text.specs.Text.{decimal, newline}
 
@@ -25,5 +24,5 @@ ok_line nodes exports = ascii "ok nodes " ++ (decimal nodes ++ (ascii " exports 
 
 -- a refusal's line; or the line of an accepted bundle, and its exports in manifest order
 unfoldable pub report : Loaded → List (List ℕ) → List ℕ
-report (loaded words slots (Refused n)) names = refused_line n
-report (loaded words slots (Accepted nodes exports)) names = ok_line nodes exports ++ lines (take exports slots) names
+report (loaded words slots (Err n)) names = refused_line n
+report (loaded words slots (Ok c)) names = ok_line c.nodes c.exports ++ lines (take c.exports slots) names

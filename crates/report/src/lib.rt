@@ -1,10 +1,10 @@
-// The lines that are written: of a refusal, or of an accepted bundle and its exports.
+// The lines that are written: of a refusal, or of an accepted bundle and its exports. By `text`, and not by `write!`, whose contracts do
+// not say which bytes are written.
 #![tactic(auto)]
 
-ghost use Rattle.std.specs.Prelude.{◌+◌, ◌≤◌, ◌≡◌, ◌++◌, length, take};
+ghost use Rattle.std.specs.Prelude.{◌+◌, ◌≤◌, ◌≡◌, ◌++◌, length, take, Ok};
 ghost use Rattle.sizes.specs.Sizes.{name_size};
 ghost use Rattle.manifest.specs.Content.{names};
-ghost use Rattle.bundle.specs.declared.Verdict.TheVariants.{Passed};
 ghost use Rattle.bundle.specs.Verdict.{described};
 ghost use Rattle.loader.specs.Load.{exports_in};
 ghost use Rattle.report.specs.Report.{line, lines, refused_line, ok_line};
@@ -12,7 +12,7 @@ ghost use Rattle.text.specs.Put.{Put};
 ghost use Rattle.report.specs.Writing.{Exported, text_bytes};
 
 use bundle::exports::name_of;
-use bundle::{Outline, Verdict, describe};
+use bundle::{Outline, describe};
 use text::{put_bytes, put_decimal};
 
 // Puts the line of an export: slot, name length, name bytes.
@@ -29,7 +29,8 @@ fn put_line(out: &mut [u8], at: usize, slot: u32, name: &[u8]) -> usize
     put_bytes(out, e, b"\n")
 }
 
-// Puts a line for each export of a file, in manifest order. What the file has is known.
+// Puts a line for each export of a file, in manifest order. What the file has is known. The slots and their count are two parameters:
+// the table is lent, and longer than the count.
 fn put_lines(
     input: &[u8],
     c: Outline,
@@ -38,17 +39,14 @@ fn put_lines(
     out: &mut [u8],
     at: usize,
 ) -> usize
-    requires { (described input.now ≡ Passed c) × (Exported input.now slots.now count)
+    requires { (described input.now ≡ Ok c) × (Exported input.now slots.now count)
         × (at + length (lines (take count slots.now) (names (exports_in input.now))) ≤ length out.old) }
     ensures { Put (lines (take count slots.now) (names (exports_in input.now)))
         out.old at out.new result }
 {
     let mut p = at;
-    let mut i: u32 = 0;
-    while i < count {
-        let name = name_of(input, c, i);
-        p = put_line(out, p, slots[i as usize], name.of(input));
-        i += 1;
+    for i in 0..count {
+        p = put_line(out, p, slots[i as usize], name_of(input, c, i).of(input));
     }
     p
 }
@@ -74,12 +72,12 @@ pub fn put_accepted(input: &[u8], nodes: u32, slots: &[u32], exports: u32, out: 
 {
     let at = put_ok(out, nodes, exports);
     match describe(input) {
-        Verdict::Refused(_) => at,
-        Verdict::Passed(c) => put_lines(input, c, slots, exports, out, at),
+        Ok(c) => put_lines(input, c, slots, exports, out, at),
+        Err(_) => at,
     }
 }
 
-// Puts the number of a refusal.
+// Puts the number of a refusal; the text is defined for any number.
 pub fn put_refused(out: &mut [u8], number: u32) -> usize
     requires { length (refused_line number) ≤ length out.old }
     ensures { Put (refused_line number) out.old 0 out.new result }

@@ -1,9 +1,8 @@
 -- A running hash after whole blocks: what it hashed, and what it buffers.
-use Rattle.std.proofs.Common.{◌≡◌, ℕ, ◌+◌, ◌-◌, ◌*◌, ◌/◌, ◌%◌, ◌≤◌, List, ◌++◌, length, take, drop, ap, ◌∙◌, append-nil, arith, length-drop, length-take, drop-drop}
+use Rattle.std.proofs.Common.{◌≡◌, ℕ, ◌+◌, ◌-◌, ◌*◌, ◌/◌, ◌%◌, ◌≤◌, List, ◌++◌, length, drop, ap, ◌∙◌, append-nil, arith, length-drop, length-take, drop-drop}
 use Rattle.sha256.specs.declared.Running.{Running}
-use Rattle.sha256_block.specs.Fips180.{compress, hash, hash_all}
+use Rattle.sha256_block.specs.Fips180.{compress, hash}
 use Rattle.sha256.specs.Running.{pending, in_block, buffered}
-use Rattle.sha256_block.proofs.Lists.{rest_of}
 use Rattle.sha256_block.proofs.Blocks.{rest_append, rest_count, hash_split, block_hash, block_rest}
 use Rattle.sha256.proofs.Filling.{take_block}
 
@@ -24,13 +23,6 @@ buffered_split q v xs ys h t =
 -- a block before the rest
 pub buffered_first : (v b d : List ℕ) → length b ≡ 64 → (t : ℕ) → buffered v (b ++ d) t ≡ buffered (compress v b) d t
 buffered_first v b d l t = cc (buffered_split 1 v b d (omega arith) t, block_hash v b d l, block_rest v b d l)
-
--- the whole blocks of a slice, and its last part
-pub buffered_parts : (v m h b : List ℕ) (t : ℕ) → h ≡ hash_all v m
-    → b ≡ in_block (take (length m - length m / 64 * 64) (drop (length m / 64 * 64) m))
-    → record { h = h; block = b; total = t } ≡ buffered v m t
-unfolding buffered
-buffered_parts v m h b t e f = rw (e, f, rest_of m (length m / 64 * 64))
 
 -- what is buffered after the whole blocks of m, where the count agrees
 pub pending_buffered : (v m : List ℕ) (t : ℕ) → t % 64 ≡ length m % 64

@@ -70,3 +70,5 @@ finished_parts parts =
     ap (λ (s : Running). finished_hash (absorbed_all s parts)) fresh_after
     ∙ ap finished_hash (parts_join [] parts)
     ∙ finished_after (flatten parts)
+
+pub ruleset parts = (fresh_after, absorbed_after, finished_after)

@@ -1,13 +1,12 @@
 // SHA-256 (FIPS 180-4): a running hash by value, and the digest of a slice.
 #![tactic(auto)]
 
-ghost use Rattle.std.specs.Prelude.{◌≡◌, ◌+◌, ◌-◌, ◌≤◌, ◌++◌, length, take, replicate};
-ghost use Rattle.std.proofs.Math.Seq.{paste};
+ghost use Rattle.std.specs.Prelude.{◌≡◌, ◌+◌, ◌≤◌, ◌++◌, length, take};
 ghost use Rattle.sha256_block.specs.Fips180.{sha256};
 ghost use Rattle.sha256.specs.Running.{in_block, buffered, fresh, absorbed, finished_hash};
 
 // A hash of the bytes so far: the hash value after their whole blocks, the bytes since in the first places of the
-// block with zeros after them, and the count of bytes, modulo 2^64.
+// block with zeros after them, and the count of bytes, modulo 2^64, which says how many of the block they are: no heap.
 #[derive(Clone, Copy)]
 pub struct Running {
     h: [u32; 8],
@@ -18,53 +17,30 @@ pub struct Running {
 // After fewer bytes than these a block has room for the mark and the count of bits.
 const ONE_BLOCK: usize = 56;
 
-// A block with a part stored from a place on.
-fn store(block: [u8; 64], at: usize, part: &[u8]) -> [u8; 64]
+// A part goes behind the first bytes of a block, and zeros after it.
+#[tactic(auto, unfolding(crate::specs::Running::in_block))]
+fn put_in_block(block: &mut [u8; 64], at: usize, part: &[u8])
     requires { at + length part.now ≤ 64 }
-    ensures { result ≡ paste block at part.now (length part.now) }
+    ensures { block.new ≡ in_block (take at block.old ++ part.now) }
 {
-    let mut out = block;
-    let mut i: usize = 0;
-    while i < part.len() {
-        out[at + i] = part[i];
-        i += 1;
-    }
-    out
-}
-
-// A block with zeros from a place on.
-fn clear(block: [u8; 64], at: usize) -> [u8; 64]
-    requires { at ≤ 64 }
-    ensures { result ≡ take at block ++ replicate (64 - at) 0 }
-{
-    let mut out = block;
-    let mut i = at;
-    while i < 64 {
-        out[i] = 0;
-        i += 1;
-    }
-    out
-}
-
-// The first bytes of a block, a part after them, and then zeros.
-fn in_block(block: [u8; 64], at: usize, part: &[u8]) -> [u8; 64]
-    requires { at + length part.now ≤ 64 }
-    ensures { result ≡ in_block (take at block ++ part.now) }
-{
-    clear(store(block, at, part), at + part.len())
+    let end = at + part.len();
+    block[at..end].copy_from_slice(part);
+    block[end..].fill(0);
 }
 
 // The whole blocks of m are hashed, and the bytes after them are buffered.
+#[tactic(auto, unfolding(crate::specs::Running::buffered))]
 fn buffered(v: [u32; 8], m: &[u8], total: u64) -> Running
     ensures { result ≡ buffered v m.now total }
 {
     let h = sha256_block::hash_all(v, m);
-    let n = m.len() / 64 * 64;
-    let block = in_block([0; 64], 0, &m[n..]);
+    let mut block = [0; 64];
+    put_in_block(&mut block, 0, m.chunks_exact(64).remainder());
     Running { h, block, total }
 }
 
 impl Running {
+    #[tactic(auto, unfolding(crate::specs::Running::fresh, crate::specs::Running::in_block, sha256_block::specs::Fips180::H0))]
     pub fn new() -> Running
         ensures { result ≡ fresh }
     {
@@ -79,45 +55,50 @@ impl Running {
     }
 
     // A part of the message more: it fills the block that was begun, and whole blocks are hashed where they stand.
+    #[tactic(auto, using(crate::proofs::Absorbing::absorbing))]
     pub fn absorb(self, part: &[u8]) -> Running
         ensures { result ≡ absorbed self part.now }
     {
-        let at = (self.total % 64) as usize;
-        let total = std::num::wrapping_add_u64(self.total, part.len() as u64);
-        let v = self.h;
+        let Running {
+            h,
+            mut block,
+            total,
+        } = self;
+        let at = (total % 64) as usize;
+        let total = total.wrapping_add(part.len() as u64);
         if at == 0 {
-            return buffered(v, part, total);
+            return buffered(h, part, total);
         }
-        let old = self.block;
-        let need = 64 - at;
-        if part.len() < need {
-            return Running {
-                h: v,
-                block: in_block(old, at, part),
-                total,
-            };
-        }
-        let full = in_block(old, at, &part[0..need]);
-        buffered(sha256_block::compress(v, &full), &part[need..], total)
+        let Some((first, rest)) = part.split_at_checked(64 - at) else {
+            put_in_block(&mut block, at, part);
+            return Running { h, block, total };
+        };
+        put_in_block(&mut block, at, first);
+        buffered(sha256_block::compress(h, &block), rest, total)
     }
 
     // The digest, after the padding.
     pub fn finish(self) -> [u8; 32]
         ensures { result ≡ finished_hash self }
     {
-        let at = (self.total % 64) as usize;
-        let size = sha256_block::length_bytes(self.total << 3);
-        let v = self.h;
-        let old = self.block;
-        let marked = in_block(old, at, b"\x80");
-        if at < ONE_BLOCK {
-            return sha256_block::bytes_of(sha256_block::compress(v, &store(marked, 56, &size)));
+        let Running {
+            mut h,
+            mut block,
+            total,
+        } = self;
+        let at = (total % 64) as usize;
+        put_in_block(&mut block, at, b"\x80");
+        if at >= ONE_BLOCK {
+            let next = sha256_block::compress(h, &block);
+            h = next;
+            block = [0; 64];
         }
-        let h = sha256_block::compress(v, &marked);
-        sha256_block::bytes_of(sha256_block::compress(h, &store([0; 64], 56, &size)))
+        block[56..].copy_from_slice(&sha256_block::length_bytes(total << 3));
+        sha256_block::bytes_of(sha256_block::compress(h, &block))
     }
 }
 
+#[tactic(auto, using(crate::proofs::Clients::parts))]
 pub fn digest(bytes: &[u8]) -> [u8; 32]
     ensures { result ≡ sha256 bytes.now }
 {

@@ -1,5 +1,5 @@
 -- The whole blocks of a message, one after the other.
-use Rattle.std.proofs.Common.{◌≡◌, ℕ, zero, suc, ◌+◌, ◌-◌, ◌*◌, ◌/◌, ◌<◌, ◌≤◌, List, [], ◌++◌, length, take, drop, sym, refl, ap, ◌∙◌, append-nil, suc-add, zero-add, arith, length-append, length-drop, drop_of_length-le, take_all, drop-drop}
+use Rattle.std.proofs.Common.{◌≡◌, ℕ, zero, suc, ◌+◌, ◌*◌, ◌/◌, ◌<◌, ◌≤◌, List, [], ◌++◌, length, take, drop, sym, refl, ap, ◌∙◌, append-nil, suc-add, zero-add, arith, length-append, length-drop, drop_of_length-le, take_all, drop-drop}
 use lib.Seq.{take-append-le, drop-append-le}
 use Rattle.sha256_block.specs.Fips180.{compress, hash, hash_all}
 
@@ -49,21 +49,9 @@ pub hash_one : (v b : List ℕ) → length b ≡ 64 → hash_all v b ≡ compres
 unfolding hash
 hash_one v b l = ap (hash_all v) (sym (append-nil b)) ∙ hash_first v b [] l
 
-hash_suc : (n : ℕ) (v m : List ℕ) → hash (suc n) v m ≡ hash n (compress v (take 64 m)) (drop 64 m)
+-- less than a block
+pub hash_none : (v m : List ℕ) → length m < 64 → hash_all v m ≡ v
 unfolding hash
-hash_suc n v m = refl
-
--- a loop over blocks: r is h after the block from i on
-module _ (m h : List ℕ) (i : ℕ) (whole : List ℕ) (k : hash ((length m - i) / 64) h (drop i m) ≡ whole) where
-  pub hash_step : (r : List ℕ) → r ≡ compress h (take (i + 64 - i) (drop i m)) → 64 ≤ length m - i
-      → hash ((length m - (i + 64)) / 64) r (drop (i + 64) m) ≡ whole
-  hash_step r e l =
-      let n : (length m - i) / 64 ≡ suc ((length m - (i + 64)) / 64) = omega arith in
-      let w : i + 64 - i ≡ 64 = omega arith in
-      cc (drop-drop 64 i m, hash_suc ((length m - (i + 64)) / 64) h (drop i m))
-
-  pub hash_end : length m - i < 64 → h ≡ whole
-  unfolding hash
-  hash_end l =
-      let n : (length m - i) / 64 ≡ 0 = omega arith in
-      rw n at k
+hash_none v m h =
+    let z : length m / 64 ≡ 0 = omega arith in
+    rw z

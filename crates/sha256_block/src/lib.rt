@@ -1,16 +1,13 @@
 // SHA-256 block by block (FIPS 180-4, §6.2.2), and the length that the padding ends with.
 #![tactic(auto)]
 
-ghost use Rattle.std.specs.Prelude.{◌≡◌, ℕ, ◌+◌, ◌<◌, ◌≤◌, List, length, take};
-ghost use Rattle.sha256_block.specs.Fips180.{K, T1, T2, word_at, mixed, schedule, initial, round, rounds};
+ghost use Rattle.std.specs.Prelude.{◌≡◌, ◌+◌, ◌<◌, ◌≤◌, length, take};
+ghost use Rattle.sha256_block.specs.Fips180.{T1, T2, word_at, mixed, schedule, initial, round, rounds};
 ghost use Rattle.sha256_block.specs.Fips180.{combined, compress, hash_all, bytes_of, length_bytes};
 
 mod word;
 
-use crate::word::{
-    add, big_sigma0, big_sigma1, ch, length_byte, maj, small_sigma0, small_sigma1, word_byte,
-    word_of,
-};
+use crate::word::{big_sigma0, big_sigma1, ch, maj, small_sigma0, small_sigma1};
 
 // §4.2.2.
 const CONSTANTS: [u32; 64] = [
@@ -38,192 +35,182 @@ struct Work {
 }
 
 // Word t of a block.
-fn word_at(block: &[u8], t: usize) -> u32
-    requires { (length block.now ≡ 64) × (t < 16) }
+fn word_at(block: &[u8; 64], t: usize) -> u32
+    requires { t < 16 }
     ensures { result ≡ word_at block.now t }
 {
     let at = 4 * t;
-    word_of(block[at], block[at + 1], block[at + 2], block[at + 3])
+    u32::from_be_bytes([block[at], block[at + 1], block[at + 2], block[at + 3]])
 }
 
 // The word that is newest goes into the sum last: the others need not wait for it.
 fn mixed(w2: u32, w7: u32, w15: u32, w16: u32) -> u32
     ensures { result ≡ mixed w2 w7 w15 w16 }
 {
-    add(add(add(small_sigma0(w15), w16), w7), small_sigma1(w2))
+    small_sigma0(w15)
+        .wrapping_add(w16)
+        .wrapping_add(w7)
+        .wrapping_add(small_sigma1(w2))
 }
 
 // The first 16 words of the message schedule, which are the block's.
-fn message(block: &[u8]) -> [u32; 64]
-    requires { length block.now ≡ 64 }
+#[tactic(auto, using(std::proofs::lemmas::Grind::common_steps, crate::proofs::Words::schedule_none, crate::proofs::Words::schedule_first))]
+fn message(block: &[u8; 64]) -> [u32; 64]
     ensures { take 16 result ≡ schedule block.now 16 }
 {
     let mut w = [0u32; 64];
-    let mut t: usize = 0;
-    while t < 16 {
+    for t in 0..16 {
         w[t] = word_at(block, t);
-        t += 1;
     }
     w
 }
 
-// The other 48 words. Two a turn: x and y are the two newest words, which the next two need at once, and so they stay in
-// registers and are not read back from w.
-fn extend(w: &mut [u32; 64])
-    requires { length w.old ≡ 64 }
-    ensures { (m : List ℕ) → take 16 w.old ≡ schedule m 16 → w.new ≡ schedule m 64 }
+// The message schedule of a block: after its own 16 words the other 48. Two a turn: x and y are the two newest words, which the
+// next two need at once, and so they stay in registers and are not read back from w. One a turn takes 4 in 100 longer.
+#[tactic(auto, using(std::proofs::lemmas::Grind::common_steps, crate::proofs::Words::schedule_two))]
+fn schedule(block: &[u8; 64]) -> [u32; 64]
+    ensures { result ≡ schedule block.now 64 }
 {
+    let mut w = message(block);
     let mut x = w[14];
     let mut y = w[15];
-    let mut t: usize = 16;
-    while t < 64 {
+    for t in (16..64).step_by(2) {
         x = mixed(x, w[t - 7], w[t - 15], w[t - 16]);
         w[t] = x;
         y = mixed(y, w[t - 6], w[t - 14], w[t - 15]);
         w[t + 1] = y;
-        t += 2;
     }
-}
-
-// The message schedule of a block.
-fn schedule(block: &[u8]) -> [u32; 64]
-    requires { length block.now ≡ 64 }
-    ensures { result ≡ schedule block.now 64 }
-{
-    let mut w = message(block);
-    extend(&mut w);
     w
 }
 
 fn initial(v: [u32; 8]) -> Work
     ensures { result ≡ initial v }
 {
+    let [a, b, c, d, e, f, g, h] = v;
     Work {
-        a: v[0],
-        b: v[1],
-        c: v[2],
-        d: v[3],
-        e: v[4],
-        f: v[5],
-        g: v[6],
-        h: v[7],
+        a,
+        b,
+        c,
+        d,
+        e,
+        f,
+        g,
+        h,
     }
 }
 
 fn t1(s: Work, k: u32, w: u32) -> u32
     ensures { result ≡ T1 s k w }
 {
-    add(add(add(add(s.h, big_sigma1(s.e)), ch(s.e, s.f, s.g)), k), w)
+    s.h.wrapping_add(big_sigma1(s.e))
+        .wrapping_add(ch(s.e, s.f, s.g))
+        .wrapping_add(k)
+        .wrapping_add(w)
 }
 
 fn t2(s: Work) -> u32
     ensures { result ≡ T2 s }
 {
-    add(big_sigma0(s.a), maj(s.a, s.b, s.c))
+    big_sigma0(s.a).wrapping_add(maj(s.a, s.b, s.c))
 }
 
+#[tactic(auto, unfolding(crate::specs::Fips180::round))]
 fn round(s: Work, k: u32, w: u32) -> Work
     ensures { result ≡ round s k w }
 {
     let x = t1(s, k, w);
     let y = t2(s);
     Work {
-        a: add(x, y),
+        a: x.wrapping_add(y),
         b: s.a,
         c: s.b,
         d: s.c,
-        e: add(s.d, x),
+        e: s.d.wrapping_add(x),
         f: s.e,
         g: s.f,
         h: s.g,
     }
 }
 
-// Four rounds from round t on: unrolled, so that the working variables change places in registers.
-fn four_rounds(k: &[u32; 64], w: &[u32; 64], t: usize, s: Work) -> Work
-    requires { (k.now ≡ K) × (t + 4 ≤ 64) }
+// Four rounds from round t on: unrolled, so that the working variables change places in registers. One round a turn takes a
+// sixth longer.
+#[tactic(auto, unfolding(crate::specs::Fips180::rounds, crate::specs::Fips180::K))]
+fn four_rounds(w: &[u32; 64], t: usize, s: Work) -> Work
+    requires { t + 4 ≤ 64 }
     ensures { result ≡ rounds w.now t 4 s }
 {
-    let s1 = round(s, k[t], w[t]);
-    let s2 = round(s1, k[t + 1], w[t + 1]);
-    let s3 = round(s2, k[t + 2], w[t + 2]);
-    round(s3, k[t + 3], w[t + 3])
+    let s1 = round(s, CONSTANTS[t], w[t]);
+    let s2 = round(s1, CONSTANTS[t + 1], w[t + 1]);
+    let s3 = round(s2, CONSTANTS[t + 2], w[t + 2]);
+    round(s3, CONSTANTS[t + 3], w[t + 3])
 }
 
+#[tactic(auto, using(crate::proofs::FourRounds::rounds_four), unfolding(crate::specs::Fips180::rounds))]
 fn rounds(w: &[u32; 64], start: Work) -> Work
     ensures { result ≡ rounds w.now 0 64 start }
 {
-    let k = CONSTANTS;
     let mut s = start;
-    let mut q: usize = 0;
-    while q < 16 {
-        s = four_rounds(&k, w, 4 * q, s);
-        q += 1;
+    for t in (0..64).step_by(4) {
+        s = four_rounds(w, t, s);
     }
     s
 }
 
+#[tactic(auto, unfolding(crate::specs::Fips180::combined))]
 fn combined(v: [u32; 8], s: Work) -> [u32; 8]
     ensures { result ≡ combined v s }
 {
     [
-        add(v[0], s.a),
-        add(v[1], s.b),
-        add(v[2], s.c),
-        add(v[3], s.d),
-        add(v[4], s.e),
-        add(v[5], s.f),
-        add(v[6], s.g),
-        add(v[7], s.h),
+        v[0].wrapping_add(s.a),
+        v[1].wrapping_add(s.b),
+        v[2].wrapping_add(s.c),
+        v[3].wrapping_add(s.d),
+        v[4].wrapping_add(s.e),
+        v[5].wrapping_add(s.f),
+        v[6].wrapping_add(s.g),
+        v[7].wrapping_add(s.h),
     ]
 }
 
 // One block into a hash value.
+#[tactic(auto, unfolding(crate::specs::Fips180::compress))]
 pub fn compress(v: [u32; 8], block: &[u8]) -> [u32; 8]
     requires { length block.now ≡ 64 }
     ensures { result ≡ compress v block.now }
 {
-    let w = schedule(block);
+    let w = schedule(block.as_array().unwrap());
     combined(v, rounds(&w, initial(v)))
 }
 
 // The whole blocks of m into a hash value, each straight from m.
+#[tactic(auto, using(crate::proofs::Blocks::hash_first, crate::proofs::Blocks::hash_none))]
 pub fn hash_all(v: [u32; 8], m: &[u8]) -> [u32; 8]
     ensures { result ≡ hash_all v m.now }
 {
     let mut h = v;
-    let mut i: usize = 0;
-    while 64 <= m.len() - i {
-        let end = i + 64;
-        let next = compress(h, &m[i..end]);
+    for block in m.chunks_exact(64) {
+        let next = compress(h, block);
         h = next;
-        i = end;
     }
     h
 }
 
 // The bytes of a hash value.
+#[tactic(auto, using(std::proofs::lemmas::Slice::overwrites, crate::proofs::Digest::digest_word), unfolding(crate::specs::Fips180::bytes_of, crate::specs::Fips180::tabulate))]
 pub fn bytes_of(v: [u32; 8]) -> [u8; 32]
     ensures { result ≡ bytes_of v }
 {
     let mut out = [0u8; 32];
-    let mut i: usize = 0;
-    while i < 32 {
-        out[i] = word_byte(v[i / 4], (i % 4) as u32);
-        i += 1;
+    for (i, word) in v.iter().enumerate() {
+        out[4 * i..4 * i + 4].copy_from_slice(&word.to_be_bytes());
     }
     out
 }
 
-// The count of bits in 8 bytes.
+// The count of bits in 8 bytes: a function, since the padding of the standard has it.
+#[tactic(auto, unfolding(crate::specs::Fips180::length_bytes, crate::specs::Fips180::tabulate))]
 pub fn length_bytes(bits: u64) -> [u8; 8]
     ensures { result ≡ length_bytes bits }
 {
-    let mut out = [0u8; 8];
-    let mut i: usize = 0;
-    while i < 8 {
-        out[i] = length_byte(bits, i as u64);
-        i += 1;
-    }
-    out
+    bits.to_be_bytes()
 }

@@ -5,7 +5,7 @@ ghost use Rattle.std.specs.Prelude.{◌≡◌};
 ghost use Rattle.sizes.specs.Sizes.{within};
 
 // The least and the most of something.
-#[derive(Clone, Copy)]
+#[derive(Clone, Copy, Debug, PartialEq, Eq)]
 pub struct Size {
     pub least: u64,
     pub most: u64,
@@ -47,12 +47,10 @@ impl Size {
     };
 
     // Whether a count is one that the size allows.
+    #[tactic(auto, unfolding(crate::specs::Sizes::within))]
     pub fn allows(self, n: u64) -> bool
         ensures { result ≡ within self n }
     {
-        if self.least <= n {
-            return n <= self.most;
-        }
-        false
+        self.least <= n && n <= self.most
     }
 }

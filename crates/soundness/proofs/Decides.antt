@@ -1,4 +1,5 @@
 -- What can be decided, and what follows where it is not so that each thing of a list is as it should be: one of them is not.
+use Rattle.std.specs.Prelude.{is_some}
 use Prim.Native.Nat.{ℕ, ◌≤◌, ◌<◌}
 use mathlib.Core.Path.{◌≡◌, refl}
 use mathlib.Core.List.{List, [], ◌∷◌}
@@ -6,7 +7,7 @@ use mathlib.Core.Bool.{Bool, true, false}
 use mathlib.Core.Logic.{◌↔◌, ◌⊎◌, inl, inr, ⊎_elim}
 use native.Mathlib.Omega.{arith}
 use native.Mathlib.Decide.{dec_le, map_dec}
-use Rattle.lists.specs.Lists.{same_bytes, index_of, found}
+use Rattle.lists.specs.Lists.{same_bytes, index_of}
 use Rattle.lists.specs.Among.{Among, here, there}
 use Rattle.lists.proofs.Same.{not_both, same_exactly}
 use Rattle.lists.proofs.Index.{found_exactly}
@@ -20,7 +21,7 @@ pub dec_same : (a b : List ℕ) → Dec (a ≡ b)
 dec_same a b = dec_true (same_bytes a b) (same_exactly a b)
 
 pub dec_among : (t : List ℕ) (xs : List (List ℕ)) → Dec (Among t xs)
-dec_among t xs = dec_true (found (index_of t 0 xs)) (found_exactly t 0 xs)
+dec_among t xs = dec_true (is_some (index_of t 0 xs)) (found_exactly t 0 xs)
 
 pub dec_both : {A B : Type 0} → Dec A → Dec B → Dec (A × B)
 dec_both (yes a) (yes b) = yes (a, b)

@@ -1,4 +1,5 @@
 -- The calls on exports answer what specs/ExportCalls.antt says.
+use Rattle.std.specs.Prelude.{Option, Some, None, Err}
 use Prim.Native.Nat.{ℕ, ◌≤◌, ◌<◌}
 use mathlib.Core.Path.{◌≡◌, refl, sym, ap, subst, ◌∙◌}
 use mathlib.Core.List.{List, [], ◌∷◌, ◌++◌}
@@ -10,17 +11,13 @@ use lib.ListN.{length, get_or, length-append}
 use Rattle.lists.specs.Lists.{index_of}
 use Rattle.wire.specs.Relations.{Number}
 use Rattle.lists.specs.Among.{Among}
-use Rattle.lists.specs.declared.Found.{Found}
-use Rattle.lists.specs.declared.Found.TheVariants.{Index as FoundAt, Nothing}
 use Rattle.lists.proofs.Index.{index_among, index_is, index_none, found_not, apart_unfound}
 use Rattle.wire.proofs.Spans.{span_none}
-use Rattle.manifest_shape.specs.declared.parts.Parsed.TheVariants.{To}
 use Rattle.manifest.specs.Content.{text_at, names}
 use Rattle.manifest.specs.Judged.{exports_of}
 use Rattle.manifest.proofs.Places.{place_name}
 use Rattle.manifest.proofs.Names.{names_length}
 use Rattle.wire.specs.declared.Part.{Part}
-use Rattle.bundle.specs.declared.exports.IndexAnswer.TheVariants.{Refused}
 use Rattle.container.specs.Directory.{manifest_section}
 use Rattle.bundle.specs.Checks.{name_refusal}
 use Rattle.bundle.specs.Exports.{name_at, name_part, name_call, index_asked, index_call, index_answer, index_numbers}
@@ -85,7 +82,7 @@ module _ (file : List ℕ) (d : Described file) (i : ℕ) where
   part_is x =
       let s = manifest_section file in
       let name = get_or (names d.manifest.exports) i [] in
-      let text : text_at s (To x.at) ≡ name =
+      let text : text_at s (Some x.at) ≡ name =
       ap (text_at s) (sym x.is_place) ∙ sym (place_name s i) ∙ ap (λ es. get_or (names es) i []) (read file d) in
       let all : d.manifest_bytes ≡ x.before ++ (x.size ++ (name ++ x.after)) =
       sym (section_only file 1 (single_manifest d) _ d.section_of_manifest) ∙ x.all ∙
@@ -137,7 +134,7 @@ only_name call by_index refused file i = elim (ℕ_discrete (name_refusal file) 
 
 module _ (file : List ℕ) (d : Described file) where
   -- what a name that is not empty is answered
-  asked : {name : List ℕ} {f : Found} → (name ≡ [] → ⊥) → index_of name 0 (names d.manifest.exports) ≡ f →
+  asked : {name : List ℕ} {f : Option ℕ} → (name ≡ [] → ⊥) → index_of name 0 (names d.manifest.exports) ≡ f →
       index_call file name ≡ index_answer f
   asked {name} h e = rw (index_asked_lem file (fine file d) name, asked_name (manifest_section file) name h, read file d, e)
 
@@ -177,13 +174,13 @@ only_asked call by_name no_such empty file d (b ∷ bs) = go (index_of (b ∷ bs
     ns : List (List ℕ)
     ns = names d.manifest.exports
 
-    go : (f : Found) → index_of (b ∷ bs) 0 ns ≡ f → call file (b ∷ bs) ≡ index file (b ∷ bs)
-    go (FoundAt k) e =
+    go : (f : Option ℕ) → index_of (b ∷ bs) 0 ns ≡ f → call file (b ∷ bs) ≡ index file (b ∷ bs)
+    go (Some k) e =
         let (_, l, q) = index_is (b ∷ bs) 0 ns k e in
         let h : k < length d.manifest.exports = omega (arith, l, names_length d.manifest.exports) in
         let name : get_or ns k [] ≡ b ∷ bs = rw sub-zero at q in
         subst (λ (t : List ℕ). call file t ≡ index file t) name (by_name file d k h ∙ sym (index_by_name file d k h))
-    go Nothing e =
+    go None e =
         let some : b ∷ bs ≡ [] → ⊥ = λ q. omega (arith, ap length q) in
         let apart = index_none (b ∷ bs) 0 ns e in
         no_such file d (b ∷ bs) some apart ∙ sym (no_such_name file d (b ∷ bs) some apart)
@@ -211,9 +208,9 @@ index_within file d (b ∷ bs) =
     ns : List (List ℕ)
     ns = names d.manifest.exports
 
-    found : (f : Found) → index_of (b ∷ bs) 0 ns ≡ f → (index_numbers (index_answer f)).index < length d.manifest.exports
-    found (FoundAt k) e = omega (arith, (index_is (b ∷ bs) 0 ns k e).1, names_length d.manifest.exports)
-    found Nothing e = some_exports d.is_manifest
+    found : (f : Option ℕ) → index_of (b ∷ bs) 0 ns ≡ f → (index_numbers (index_answer f)).index < length d.manifest.exports
+    found (Some k) e = omega (arith, (index_is (b ∷ bs) 0 ns k e).1, names_length d.manifest.exports)
+    found None e = some_exports d.is_manifest
 
 pub index_below : IndexBelow
 unfolding index_call
@@ -235,6 +232,6 @@ index_tells file name n e = elim (ℕ_discrete (name_refusal file) 0) [
       omega (arith, z, q)
 ]
   where
-    go : (f : Found) → index_answer f ≡ Refused n → 0 < n
-    go (FoundAt i) q = let z : ◌≡◌ {A = ℕ} 0 1 = cc in absurd (omega arith)
-    go Nothing q = let z : 25 ≡ n = cc in omega arith
+    go : (f : Option ℕ) → index_answer f ≡ Err n → 0 < n
+    go (Some i) q = let z : ◌≡◌ {A = ℕ} 0 1 = cc in absurd (omega arith)
+    go None q = let z : 25 ≡ n = cc in omega arith

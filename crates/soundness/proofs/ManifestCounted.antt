@@ -1,43 +1,44 @@
 -- Several things one after the other, and a count and as many things: they parse where the single thing does.
+use Rattle.std.proofs.lemmas.Option.{option_and_then_some}
+use Rattle.std.specs.Prelude.{Option, Some}
+use Rattle.std.specs.List.{slice_get}
 use Prim.Native.Nat.{ℕ, zero, suc, ◌+◌, ◌≤◌, ◌<◌}
 use mathlib.Core.Path.{◌≡◌, refl, ap}
 use mathlib.Core.List.{List, [], ◌++◌}
 use native.Mathlib.Omega.{arith}
-use lib.ListN.{length, get_or, take}
+use lib.ListN.{length, take}
 use Rattle.wire.specs.Relations.{Sequence, none, next}
 use Rattle.wire.proofs.Reading.{Reads, reads_none, reads_join, reads_split, number_reads, reads_number}
 use Rattle.sizes.specs.Sizes.{any_count, roots_size, exports_size, fields_size}
 use Rattle.sizes.specs.declared.Size.{Size}
 use Rattle.sizes.proofs.Within.{within_exactly}
-use Rattle.manifest_shape.specs.declared.parts.Parsed.{Parsed}
-use Rattle.manifest_shape.specs.declared.parts.Parsed.TheVariants.{To, Bad}
 use Rattle.manifest_shape.specs.declared.parts.Kind.{Kind}
 use Rattle.manifest_shape.specs.declared.parts.Kind.TheVariants.{Text, Root, Export, Field}
 use Rattle.manifest_shape.specs.Shape.{sized_end, field_end, item_end, items_end, counted_end}
 use Rattle.manifest.specs.Content.{text_at, export_at, list_from, roots_at, exports_at}
 use Rattle.soundness.specs.ManifestGrammar.{IsString, IsRoot, IsExport, IsField, IsCounted, counted}
-use Rattle.manifest_shape.proofs.Ends.{then_to, string_past, counted_number}
+use Rattle.manifest_shape.proofs.Ends.{string_past, counted_number}
 use Rattle.manifest.proofs.Counted.{counted_at, root_past_lem, export_past_lem, items_length}
 use Rattle.soundness.proofs.ManifestParses.{Parses}
 use Rattle.soundness.proofs.ManifestPieces.{string_parses, root_parses, export_parses, field_at, field_parses}
 
 -- `past` is where the reader goes on: where the thing ends
-module _ {A : Type 0} (s : List ℕ) (kind : Kind) (past : ℕ → Parsed) (read : ℕ → A) (Is : A → List ℕ → Type 0)
-    (ends : (at e : ℕ) → item_end s kind at ≡ To e → past at ≡ To e) (parses : Parses s (item_end s kind) read Is) where
-  pub items_forth : (n : ℕ) {at e : ℕ} → at ≤ length s → items_end s kind n at ≡ To e →
+module _ {A : Type 0} (s : List ℕ) (kind : Kind) (past : ℕ → Option ℕ) (read : ℕ → A) (Is : A → List ℕ → Type 0)
+    (ends : (at e : ℕ) → item_end s kind at ≡ Some e → past at ≡ Some e) (parses : Parses s (item_end s kind) read Is) where
+  pub items_forth : (n : ℕ) {at e : ℕ} → at ≤ length s → items_end s kind n at ≡ Some e →
       (b : List ℕ) × Reads s at e b × Sequence Is (list_from past read n at) b
   unfolding items_end list_from
   items_forth zero {at} {e} l g = let q : at ≡ e = cc in ([], rw (← q) (reads_none s at l), none)
   items_forth (suc n) {at} l g =
-      then_to (item_end s kind at) _ g λ p h k.
+      option_and_then_some _ (item_end s kind at) _ g λ p h k.
       let (a, r, i) = parses.forth h in
       let (b, t, j) = items_forth n r.fits k in
       (a ++ b, reads_join r t, rw (ends at p h) (next i j))
 
   pub items_back : {xs : List A} {b : List ℕ} {at e : ℕ} → Reads s at e b → Sequence Is xs b →
-      (items_end s kind (length xs) at ≡ To e) × (list_from past read (length xs) at ≡ xs)
+      (items_end s kind (length xs) at ≡ Some e) × (list_from past read (length xs) at ≡ xs)
   unfolding items_end list_from
-  items_back r none = (ap To (omega arith), refl)
+  items_back r none = (ap Some (omega arith), refl)
   items_back r (next {a = a} i j) =
       let (p, t, u) = reads_split {b = a} r in
       let (g, h) = parses.back t i in
@@ -45,18 +46,18 @@ module _ {A : Type 0} (s : List ℕ) (kind : Kind) (past : ℕ → Parsed) (read
       (rw g k, rw (ends _ p g, h, m))
 
   -- of n things, where the one with an index stands: where as many before it end
-  pub item_at : (n i at : ℕ) {e : ℕ} → i < n → items_end s kind n at ≡ To e →
-      (p q : ℕ) × (items_end s kind i at ≡ To p) × (item_end s kind p ≡ To q) ×
-      (get_or (list_from past (λ p. To p) n at) i Bad ≡ To p) × (list_from past read i at ≡ take i (list_from past read n at))
+  pub item_at : (n i at : ℕ) {e : ℕ} → i < n → items_end s kind n at ≡ Some e →
+      (p q : ℕ) × (items_end s kind i at ≡ Some p) × (item_end s kind p ≡ Some q) ×
+      (slice_get (list_from past (λ p. p) n at) i ≡ Some p) × (list_from past read i at ≡ take i (list_from past read n at))
   unfolding items_end list_from
   item_at zero i at h g = absurd (omega arith)
-  item_at (suc n) zero at h g = then_to (item_end s kind at) _ g λ q k l. (at, q, refl, k, rw (ends at q k), refl)
+  item_at (suc n) zero at h g = option_and_then_some _ (item_end s kind at) _ g λ q k l. (at, q, refl, k, rw (ends at q k), refl)
   item_at (suc n) (suc i) at h g =
-      then_to (item_end s kind at) _ g λ o k l.
+      option_and_then_some _ (item_end s kind at) _ g λ o k l.
       let (p, q, f, t, a, b) = item_at n i o (omega arith) l in
       (p, q, rw k f, t, rw (ends at o k) a, rw (ends at o k, b))
 
-  counted_forth : (size : Size) {at e : ℕ} → counted_end s kind size at ≡ To e →
+  counted_forth : (size : Size) {at e : ℕ} → counted_end s kind size at ≡ Some e →
       (b : List ℕ) × Reads s at e b × IsCounted Is size.least size.most (counted_at s past read at) b
   counted_forth size {at} g =
       counted_number s kind size at g λ n h l u k.
@@ -67,7 +68,7 @@ module _ {A : Type 0} (s : List ℕ) (kind : Kind) (past : ℕ → Parsed) (read
       (a ++ b, reads_join r t, rw h (counted {xs = xs} {n = a} (rw q m) (rw q l) (rw q u) i))
 
   counted_back : (size : Size) {at e : ℕ} {b : List ℕ} {xs : List A} → Reads s at e b → IsCounted Is size.least size.most xs b →
-      (counted_end s kind size at ≡ To e) × (counted_at s past read at ≡ xs)
+      (counted_end s kind size at ≡ Some e) × (counted_at s past read at ≡ xs)
   unfolding counted_end
   counted_back size {at} r (counted {xs = xs} m l u i) =
       let (p, a, t) = reads_split r in
@@ -81,7 +82,7 @@ module _ {A : Type 0} (s : List ℕ) (kind : Kind) (past : ℕ → Parsed) (read
 
 -- the four kinds
 module _ (s : List ℕ) where
-  pub text_kind : Parses s (item_end s Text) (λ p. text_at s (To p)) IsString
+  pub text_kind : Parses s (item_end s Text) (λ p. text_at s (Some p)) IsString
   unfolding item_end
   text_kind = string_parses s
 
@@ -89,7 +90,7 @@ module _ (s : List ℕ) where
   unfolding item_end
   export_kind = export_parses s
 
-  pub text_counted : Parses s (counted_end s Text any_count) (counted_at s (sized_end s) (λ p. text_at s (To p)))
+  pub text_counted : Parses s (counted_end s Text any_count) (counted_at s (sized_end s) (λ p. text_at s (Some p)))
       (IsCounted IsString 0 4294967295)
   unfolding item_end
   text_counted = counted_parses s Text _ _ _ (string_past s) (string_parses s) any_count

@@ -1,4 +1,5 @@
 -- The tests of a manifest mean what specs/Meaning.antt says.
+use Rattle.std.specs.Prelude.{Option, Some, None}
 use Prim.Native.Nat.{ℕ, ◌≤◌}
 use mathlib.Core.Path.{◌≡◌, refl, sym, ap, subst, ◌∙◌}
 use mathlib.Core.List.{List, [], ◌∷◌}
@@ -15,8 +16,6 @@ use Rattle.lists.proofs.Tests.{not_exactly}
 use Rattle.lists.proofs.Same.{not_both}
 use Rattle.wire.proofs.Reading.{reads_all}
 use Rattle.manifest_shape.specs.declared.Layout.{Layout}
-use Rattle.manifest_shape.specs.declared.Manifest.{Manifest}
-use Rattle.manifest_shape.specs.declared.Manifest.TheVariants.{Shape, Malformed}
 use Rattle.manifest_shape.specs.Shape.{manifest_of}
 use Rattle.manifest.specs.Content.{exports_at}
 use Rattle.manifest.specs.Judged.{malformed, unsupported_at, unsupported, misnamed_at, misnamed, roots_of, exports_of}
@@ -32,16 +31,16 @@ use Rattle.soundness.proofs.ManifestFaults.{abis_exactly, sizes_exactly, names_e
 use Rattle.soundness.proofs.ManifestStrings.{strings_exactly}
 
 -- the layout that a manifest has, and that it reads the manifest
-layout_of : {s : List ℕ} {m : Contents} → IsManifest m s → (l : Layout) × (manifest_of s ≡ Shape l) × (contents_at s l ≡ m)
+layout_of : {s : List ℕ} {m : Contents} → IsManifest m s → (l : Layout) × (manifest_of s ≡ Some l) × (contents_at s l ≡ m)
 layout_of {s} i = whole_back (reads_all s) i
 
 pub shaped_exactly : ManifestShapedExactly
 unfolding malformed
 shaped_exactly s = (go (manifest_of s) refl, λ m. let (l, g, e) = layout_of m.1 in rw g)
   where
-    go : (f : Manifest) → manifest_of s ≡ f → malformed s ≡ false → (m : Contents) × IsManifest m s
-    go (Shape l) g h = (contents_at s l, shape_laid s l g λ a b t. whole_forth t)
-    go Malformed g h = not_both refl (rw g at h)
+    go : (f : Option Layout) → manifest_of s ≡ f → malformed s ≡ false → (m : Contents) × IsManifest m s
+    go (Some l) g h = (contents_at s l, shape_laid s l g λ a b t. whole_forth t)
+    go None g h = not_both refl (rw g at h)
 
 pub reads_roots : ReadsRoots
 unfolding roots_of

@@ -1,6 +1,8 @@
 -- The walk over the strings agrees exactly where each string read is as wanted.
+use Rattle.std.proofs.lemmas.Option.{option_and_then_some}
+use Rattle.std.specs.Prelude.{Some, None, is_some, cond}
 use Prim.Native.Nat.{ℕ, suc}
-use mathlib.Core.Path.{◌≡◌, refl, ap}
+use mathlib.Core.Path.{◌≡◌, refl}
 use mathlib.Core.List.{List, [], ◌∷◌}
 use mathlib.Core.Bool.{Bool, true, false}
 use mathlib.Core.Logic.Iff
@@ -8,14 +10,13 @@ use mathlib.Core.Logic.{◌↔◌}
 use lib.ListN.{length}
 use Rattle.lists.specs.Lists.{same_bytes}
 use Rattle.lists.proofs.Same.{same_sound, same_true, not_both}
-use Rattle.manifest_shape.specs.declared.parts.Parsed.{Parsed}
-use Rattle.manifest_shape.specs.declared.parts.Parsed.TheVariants.{To}
 use Rattle.manifest_shape.specs.declared.parts.Kind.TheVariants.{Text}
-use Rattle.manifest_shape.specs.Shape.{and_then, string_end, sized_end, item_end, items_end}
+use Rattle.lists.specs.Options.{◌>>=◌}
+use Rattle.manifest_shape.specs.Shape.{string_end, sized_end, item_end, items_end}
 use Rattle.manifest.specs.Content.{text_at, texts_from, list_from}
 use Rattle.manifest.specs.Judged.{Wanted, exactly, any_text, meets, past, past_all, nine_strings, strings_agree}
 use Rattle.soundness.specs.ManifestMeaning.{NineStrings, nine}
-use Rattle.manifest_shape.proofs.Ends.{then_to, string_past}
+use Rattle.manifest_shape.proofs.Ends.{string_past}
 
 -- texts are what is wanted of them, one by one
 pub data Agree : List Wanted → List (List ℕ) → Type 0 where
@@ -53,39 +54,34 @@ pub agree_nine : (ts : List (List ℕ)) → Agree nine_strings ts ↔ NineString
 agree_nine ts = (agreed_nine ts, nine_agreed ts)
 
 module _ (s : List ℕ) where
-  -- the walk over some strings from a position on, where those before it agree or not
-  abbrev walked : Parsed → List Wanted → Bool → Bool
-  walked p ws b = (past_all s (record { at = p; same = b }) ws).same
+  -- what comes of the strings after one that ends at q, by whether it is as wanted
+  abbrev onward : List Wanted → ℕ → Bool → Bool
+  onward ws q b = is_some (cond b (Some q) None >>= (λ end. past_all s end ws))
 
-  stays_false : (p : Parsed) (ws : List Wanted) → walked p ws false ≡ false
+  walk_step : (w : Wanted) (ws : List Wanted) (p : ℕ) {q : ℕ} → sized_end s p ≡ Some q →
+      is_some (past_all s p (w ∷ ws)) ≡ onward ws q (meets (text_at s (Some p)) w)
   unfolding past_all past
-  stays_false p [] = refl
-  stays_false p (w ∷ ws) = stays_false (and_then p (sized_end s)) ws
+  walk_step w ws p j = rw j
 
-  walk_step : (w : Wanted) (ws : List Wanted) (p : ℕ) {q : ℕ} → sized_end s p ≡ To q →
-      walked (To p) (w ∷ ws) true ≡ walked (To q) ws (meets (text_at s (To p)) w)
-  unfolding past_all past
-  walk_step w ws p j = ap (λ (a : Parsed). walked a ws (meets (text_at s (To p)) w)) j
-
-  texts_step : (n p : ℕ) {q : ℕ} → sized_end s p ≡ To q → texts_from s (suc n) p ≡ text_at s (To p) ∷ texts_from s n q
+  texts_step : (n p : ℕ) {q : ℕ} → sized_end s p ≡ Some q → texts_from s (suc n) p ≡ text_at s (Some p) ∷ texts_from s n q
   unfolding list_from
   texts_step n p j = rw j
 
-  items_step : {A : Type 0} (n p : ℕ) {e : ℕ} → items_end s Text (suc n) p ≡ To e →
-      ((q : ℕ) → sized_end s p ≡ To q → items_end s Text n q ≡ To e → A) → A
+  items_step : {A : Type 0} (n p : ℕ) {e : ℕ} → items_end s Text (suc n) p ≡ Some e →
+      ((q : ℕ) → sized_end s p ≡ Some q → items_end s Text n q ≡ Some e → A) → A
   unfolding items_end item_end
-  items_step n p g f = then_to (string_end s p) (items_end s Text n) g λ q j k. f q (string_past s p q j) k
+  items_step n p g f = option_and_then_some (items_end s Text n) (string_end s p) _ g λ q j k. f q (string_past s p q j) k
 
-  walk_exactly : (ws : List Wanted) (p : ℕ) {e : ℕ} → items_end s Text (length ws) p ≡ To e →
-      (walked (To p) ws true ≡ true) ↔ Agree ws (texts_from s (length ws) p)
+  walk_exactly : (ws : List Wanted) (p : ℕ) {e : ℕ} → items_end s Text (length ws) p ≡ Some e →
+      (is_some (past_all s p ws) ≡ true) ↔ Agree ws (texts_from s (length ws) p)
   unfolding past_all list_from
   walk_exactly [] p g = (λ h. none, λ a. refl)
   walk_exactly (w ∷ ws) p g =
       items_step (length ws) p g λ q j k.
       rw (walk_step w ws p j, texts_step (length ws) p j)
-      (agree_more ws _ _ (walked (To q) ws) (stays_false (To q) ws) (walk_exactly ws q k) w)
+      (agree_more ws _ _ (onward ws q) refl (walk_exactly ws q k) w)
 
-  pub strings_exactly : (p : ℕ) {e : ℕ} → items_end s Text 9 p ≡ To e →
+  pub strings_exactly : (p : ℕ) {e : ℕ} → items_end s Text 9 p ≡ Some e →
       (strings_agree s p ≡ true) ↔ NineStrings (texts_from s 9 p)
   unfolding strings_agree nine_strings
   strings_exactly p g = Iff.trans (walk_exactly nine_strings p g) (agree_nine (texts_from s 9 p))

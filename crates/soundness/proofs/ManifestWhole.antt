@@ -1,4 +1,6 @@
 -- The whole manifest: a layout is found exactly where the bytes are a manifest, and what it reads is what they are.
+use Rattle.std.proofs.lemmas.Option.{option_and_then_some}
+use Rattle.std.specs.Prelude.{Option, Some}
 use Prim.Native.Nat.{ℕ}
 use mathlib.Core.Path.{◌≡◌, refl, subst}
 use mathlib.Core.List.{List, [], ◌∷◌, ◌++◌}
@@ -11,16 +13,14 @@ use Rattle.wire.specs.Relations.{Number}
 use Rattle.wire.proofs.Reading.{Reads, all_reads, reads_join, reads_split}
 use Rattle.wire.proofs.Reading.{number_reads, reads_number, holds_reads, reads_holds}
 use Rattle.sizes.specs.Sizes.{exports_size, fields_size}
-use Rattle.manifest_shape.specs.declared.parts.Parsed.{Parsed}
-use Rattle.manifest_shape.specs.declared.parts.Parsed.TheVariants.{To}
 use Rattle.manifest_shape.specs.declared.parts.Kind.TheVariants.{Text, Export, Field}
 use Rattle.manifest_shape.specs.declared.Layout.{Layout}
-use Rattle.manifest_shape.specs.declared.Manifest.TheVariants.{Shape}
 use Rattle.manifest_shape.specs.Shape.{item_end, counted_end, sized_end, field_end}
-use Rattle.manifest_shape.specs.Shape.{and_then, head_end, place_of, manifest_of}
+use Rattle.manifest_shape.specs.Shape.{head_end, manifest_of}
+use Rattle.lists.specs.Options.{◌>>=◌}
 use Rattle.manifest.specs.Content.{text_at, texts_from, roots_at, exports_at}
 use Rattle.soundness.specs.ManifestGrammar.{Contents, IsHead, head, IsManifest, manifest}
-use Rattle.manifest_shape.proofs.Ends.{number_to, cond_to, string_past}
+use Rattle.manifest_shape.proofs.Ends.{cond_to, string_past}
 use Rattle.manifest_shape.proofs.Laid.{Laid, laid_shape}
 use Rattle.manifest.proofs.Counted.{counted_at, items_length}
 use Rattle.soundness.proofs.ManifestParses.{bytes_reads, reads_bytes}
@@ -32,12 +32,12 @@ abbrev magic : List ℕ
 magic = ascii "ARBMNFST"
 
 -- the head: the magic, major 1 and any minor
-head_forth : {p : ℕ} (s : List ℕ) → head_end s ≡ To p →
+head_forth : {p : ℕ} (s : List ℕ) → head_end s ≡ Some p →
     (a : List ℕ) × Reads s 0 10 (magic ++ a) × Number 2 1 a × Reads s 10 p (span s 10 2) × (length (span s 10 2) ≡ 2)
 unfolding head_end
 head_forth s g =
     let (h, k) = cond_to (holds_at s 0 magic) _ g in
-    number_to (number_at 2 s 8) _ k λ v n j.
+    option_and_then_some _ (number_at 2 s 8) _ k λ v n j.
     let (q, b) = cond_to (eqb v 1) _ j in
     let (a, r, m) = number_reads s 8 2 (rw (eqb-true v 1 q) at n) in
     let (t, l) = bytes_reads s 10 2 b in
@@ -45,7 +45,7 @@ head_forth s g =
 
 head_back : {s a c : List ℕ} {p q e v : ℕ} → Reads s 0 p magic →
     Reads s p q a → Number 2 1 a → Reads s q e c → Number 2 v c →
-    (head_end s ≡ To e) × (big_endian (span s 10 2) ≡ v)
+    (head_end s ≡ Some e) × (big_endian (span s 10 2) ≡ v)
 unfolding head_end
 head_back {s} {p = p} {q = q} r t m u n =
     let e : p ≡ 8 = omega arith in
@@ -56,17 +56,17 @@ head_back {s} {p = p} {q = q} r t m u n =
 -- what is read of a manifest by its layout
 abbrev pub contents_at : List ℕ → Layout → Contents
 contents_at s l =
-    let metadata : Parsed = counted_end s Export exports_size l.exports in
-    let extensions : Parsed = and_then metadata (counted_end s Field fields_size) in
+    let metadata : Option ℕ = counted_end s Export exports_size l.exports in
+    let extensions : Option ℕ = (metadata >>= counted_end s Field fields_size) in
     record {
       minor = big_endian (span s 10 2);
       strings = texts_from s 9 l.strings;
-      capabilities = counted_at s (sized_end s) (λ p. text_at s (To p)) l.capabilities;
+      capabilities = counted_at s (sized_end s) (λ p. text_at s (Some p)) l.capabilities;
       closure = or_zero (number_at 1 s l.closure);
       roots = roots_at s l.roots;
       exports = exports_at s l.exports;
-      metadata = counted_at s (field_end s) (field_at s) (place_of metadata);
-      extensions = counted_at s (field_end s) (field_at s) (place_of extensions);
+      metadata = counted_at s (field_end s) (field_at s) (or_zero metadata);
+      extensions = counted_at s (field_end s) (field_at s) (or_zero extensions);
     }
 
 -- what a found layout reads is what the bytes are: up to the exports, and from there on
@@ -76,7 +76,7 @@ unfolding item_end
 head_reads {s} {l} t =
     let (major, r1, m1, r2, m2) = head_forth s t.head in
     let (b3, r3, i3) = items_forth s Text _ _ _ (string_past s) (text_kind s) 9 r2.fits t.strings in
-    let l3 = items_length s Text _ (λ p. text_at s (To p)) (string_past s) 9 l.strings t.strings in
+    let l3 = items_length s Text _ (λ p. text_at s (Some p)) (string_past s) 9 l.strings t.strings in
     let (b4, r4, i4) = (text_counted s).forth t.capabilities in
     let (b5, r5, i5) = (closure_parses s).forth t.closure in
     let (b6, r6, i6) = (root_counted s).forth t.roots in
@@ -99,7 +99,7 @@ whole_forth {s} {l} t =
 
 -- and where the bytes are a manifest, its layout is found and reads it
 pub whole_back : {s b : List ℕ} {m : Contents} → Reads s 0 (length s) b → IsManifest m b →
-    (l : Layout) × (manifest_of s ≡ Shape l) × (contents_at s l ≡ m)
+    (l : Layout) × (manifest_of s ≡ Some l) × (contents_at s l ≡ m)
 unfolding item_end
 whole_back {s} {m = m} r (manifest (head {nine = nine} m1 m2 l3 i3 i4 i5 i6) i7 i8 i9) =
     let (p7, t7, r7) = reads_split r in

@@ -1,10 +1,9 @@
 -- What the calls on exports answer, over what the file is. The proofs are in proofs/ExportCalls.antt.
-use Rattle.std.specs.Prelude.{ℕ, ◌+◌, ◌≤◌, ◌<◌, ◌≡◌, List, [], ◌++◌, length, get_or, take}
+use Rattle.std.specs.Prelude.{ℕ, ◌+◌, ◌≤◌, ◌<◌, ◌≡◌, List, [], ◌++◌, length, get_or, take, Err}
 use Rattle.wire.specs.Relations.{Number, Sequence}
 use Rattle.lists.specs.Among.{Among}
 use Rattle.manifest.specs.Content.{names}
 use Rattle.wire.specs.declared.Part.{Part}
-use Rattle.bundle.specs.declared.exports.IndexAnswer.TheVariants.{Refused}
 use Rattle.bundle.specs.Exports.{name_part, name_call, index_call, IndexNumbers, index_numbers}
 use Rattle.soundness.specs.FileGrammar.{SectionOf}
 use Rattle.soundness.specs.ManifestGrammar.{Contents, IsHead, IsExport}
@@ -89,7 +88,7 @@ IndexRefused call =
 
 -- the number tells which case of the answer it is: no refusal has 0
 abbrev pub IndexTells : Type 0
-IndexTells = (file name : List ℕ) (n : ℕ) → index_call file name ≡ Refused n → 0 < n
+IndexTells = (file name : List ℕ) (n : ℕ) → index_call file name ≡ Err n → 0 < n
 
 -- the index is below 32, the most exports that a bundle has, whatever the file and the name
 abbrev pub IndexBelow : Type 0

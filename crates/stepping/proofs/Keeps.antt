@@ -24,6 +24,7 @@ use Rattle.frames.proofs.FrameLaws.{frame_room_long, length_put_frame, frame_her
 use Rattle.frames.proofs.FrameLaws.{length_drop, frame_dropped}
 use Rattle.stepping.specs.declared.State.{State}
 use Rattle.stepping.specs.declared.Turn.{Turn}
+use Rattle.stepping.specs.declared.Turn.TheVariants.{Going, Done, Stopped}
 use Rattle.stepping.specs.Rules.{SlotAction, Make, Give, Go, Push, on_argument, on_fork, on_function, slot_rule}
 use Rattle.stepping.specs.Step.{meet_frame, meet, Stepped, at, beside, carry, step}
 use Rattle.stepping.specs.Ready.{Runnable, Waits, Asks, Carries}
@@ -129,9 +130,14 @@ module _ (j : List ℕ) (used k : ℕ) where
 
 -- ---- a step
 
--- the tables and the state that a step leaves, whatever it came to, are ready for another one
+-- the tables and the state that a step leaves are ready for another one; or its slots are sound, with the result among them
+abbrev pub LeftBy : List ℕ → List ℕ → Turn → Type 0
+LeftBy w j (Going s) = Runnable w s × Waits j s.used s.waiting
+LeftBy w j (Done t used) = SlotsPass w used × (t.0 < used)
+LeftBy w j (Stopped why) = Unit {0}
+
 abbrev pub Left : Stepped → Type 0
-Left (at w j t) = Runnable w t.state × Waits j t.state.used t.state.waiting
+Left (at w j t) = LeftBy w j t
 
 module _ (w j : List ℕ) (t : Slot) (used : ℕ) (slots : SlotsPass w used) (ht : t.0 < used) where
   frame_keeps : (k : ℕ) (f : Frame) → Waits j used (suc k) → FrameNames used f → Left (beside w (meet_frame j t used k f))
@@ -146,7 +152,7 @@ module _ (w j : List ℕ) (t : Slot) (used : ℕ) (slots : SlotsPass w used) (ht
   -- so are those that the meeting of a used slot with the newest frame leaves,
   pub meet_keeps : (waiting : ℕ) → Waits j used waiting → Left (beside w (meet j t used waiting))
   unfolding meet
-  meet_keeps zero h = (record { slots = slots; f = ht; x = omega arith }, h)
+  meet_keeps zero h = (slots, ht)
   meet_keeps (suc k) h = frame_keeps k (frame_at j k) h (h.names k (omega arith))
 
 module _ (w j : List ℕ) (s : State) (r : Runnable w s) (waits : Waits j s.used s.waiting) where
@@ -159,7 +165,7 @@ module _ (w j : List ℕ) (s : State) (r : Runnable w s) (waits : Waits j s.used
       meet_keeps (put_node w s.used n) j (slot s.used) (s.used + 1)
       (sound_next w s.used n r.slots l h.0 h.1) (omega arith)
       s.waiting (waits_more j s.used (s.used + 1) s.waiting (omega arith) waits))
-      (λ _. (r, waits))
+      (λ _. tt)
   carry_keeps (Give t) h = meet_keeps w j t s.used r.slots h s.waiting waits
   carry_keeps (Go f x) h = (record { slots = r.slots; f = h.0; x = h.1 }, waits)
   carry_keeps (Push f x k) h =
@@ -169,7 +175,7 @@ module _ (w j : List ℕ) (s : State) (r : Runnable w s) (waits : Waits j s.used
         record { slots = r.slots; f = h.0; x = h.1 },
         waits_put j s.used s.waiting k l waits.names h.2,
       ))
-      (λ _. (r, waits))
+      (λ _. tt)
 
   -- those that a step leaves,
   pub step_keeps : Left (step w j s)

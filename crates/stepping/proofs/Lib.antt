@@ -1,3 +1,3 @@
-pub mod RuleWays
 pub mod StepWays
 pub mod Keeps
+pub mod StopNumbers

@@ -1,3 +1,4 @@
 pub mod Rules
 pub mod Step
 pub mod Ready
+pub mod Stops

@@ -6,22 +6,14 @@ use Rattle.frames.specs.declared.Frame.TheVariants.{Operand, Argument, Function}
 use Rattle.table.specs.Slots.{slot, room, put_node}
 use Rattle.frames.specs.Frames.{frame_room, frame_at, put_frame, drop_frame}
 use Rattle.stepping.specs.declared.State.{State}
-use Rattle.stepping.specs.declared.Status.{Status}
-use Rattle.stepping.specs.declared.Status.TheVariants.{Going, Done, OutOfSlots, OutOfPlaces}
+use Rattle.stepping.specs.declared.stops.Stop.TheVariants.{OutOfSlots, OutOfPlaces}
 use Rattle.stepping.specs.declared.Turn.{Turn}
+use Rattle.stepping.specs.declared.Turn.TheVariants.{Going, Done, Stopped}
 use Rattle.stepping.specs.Rules.{SlotAction, Make, Give, Go, Push, slot_rule}
 
--- the step goes on, with slot f to be applied to slot x
+-- the run goes on, with slot f to be applied to slot x
 abbrev pub going : Slot → Slot → ℕ → ℕ → Turn
-going f x used waiting = record { status = Going; state = record { f = f; x = x; used = used; waiting = waiting } }
-
--- the run is done, with slot t
-abbrev pub done : Slot → ℕ → Turn
-done t used = record { status = Done; state = record { f = t; x = slot 0; used = used; waiting = 0 } }
-
--- there is no slot or no place for what the rule asks for
-abbrev pub stop : Status → State → Turn
-stop n s = record { status = n; state = s }
+going f x used waiting = Going (record { f = f; x = x; used = used; waiting = waiting })
 
 -- the frame table that a meeting leaves, and what it comes to
 pub data Met : Type 0 where
@@ -35,7 +27,7 @@ meet_frame j t used k (Function w) = met (drop_frame j k) (going w t used k)
 
 -- slot t meets the newest of the waiting frames, at no cost
 unfoldable pub meet : List ℕ → Slot → ℕ → ℕ → Met
-meet j t used zero = met j (done t used)
+meet j t used zero = met j (Done t used)
 meet j t used (suc k) = meet_frame j t used k (frame_at j k)
 
 -- the two tables that a step leaves, and what it comes to
@@ -50,13 +42,13 @@ unfoldable pub carry : List ℕ → List ℕ → State → SlotAction → Steppe
 carry w j s (Make n) =
     cond (ltb s.used (room w))
     (beside (put_node w s.used n) (meet j (slot s.used) (s.used + 1) s.waiting))
-    (at w j (stop OutOfSlots s))
+    (at w j (Stopped OutOfSlots))
 carry w j s (Give t) = beside w (meet j t s.used s.waiting)
 carry w j s (Go f x) = at w j (going f x s.used s.waiting)
 carry w j s (Push f x k) =
     cond (ltb s.waiting (frame_room j))
     (at w (put_frame j s.waiting k) (going f x s.used (s.waiting + 1)))
-    (at w j (stop OutOfPlaces s))
+    (at w j (Stopped OutOfPlaces))
 
 unfoldable pub step : List ℕ → List ℕ → State → Stepped
 step w j s = carry w j s (slot_rule w s.f s.x)

@@ -1,19 +1,22 @@
-// One step of a run: a rule, and the meeting of its tree with the newest frame.
+// One step of a run: a rule, and the meeting of its tree with the newest frame. Both tables stay the slices that C lends: a struct of
+// the two would say no more of them than `Runnable`, `Waits` and `Carries` do.
 #![tactic(auto)]
 
 ghost use Rattle.std.specs.Prelude.{◌≡◌, ◌≤◌, ◌<◌};
 ghost use Rattle.table.specs.Limits.{max_slots};
-ghost use Rattle.stepping.specs.Step.{going, done, stop, met, meet, at, step};
+ghost use Rattle.stepping.specs.Step.{going, met, meet, at, step};
 ghost use Rattle.stepping.specs.Ready.{Runnable, Waits};
 
 use crate::rules::{make, on_fork};
+use crate::stops::Stop;
 use frames::{Frame, drop_frame, frame_at, put_frame};
 use table::slots::{Node, Slot, node_at};
 
 mod rules;
+pub mod stops;
 
 // Slot f is to be applied to slot x; so many slots are used, and so many frames wait.
-#[derive(Clone, Copy)]
+#[derive(Clone, Copy, Debug, PartialEq, Eq)]
 pub struct State {
     pub f: Slot,
     pub x: Slot,
@@ -22,69 +25,39 @@ pub struct State {
 }
 
 // What a step came to.
-#[derive(Clone, Copy)]
-pub enum Status {
-    Going,
-    Done,
-    OutOfSlots,
-    OutOfPlaces,
+#[derive(Clone, Copy, Debug, PartialEq, Eq)]
+pub enum Turn {
+    // The run goes on with an application.
+    Going(State),
+    // It is done, with a slot and so many used.
+    Done { slot: Slot, used: u32 },
+    // There is no slot or no place for what the rule asks for.
+    Stopped(Stop),
 }
 
-// The state after a step; if that is the last, f is the result.
-#[derive(Clone, Copy)]
-pub struct Turn {
-    pub status: Status,
-    pub state: State,
-}
-
-// The step goes on with an application.
-pub(crate) fn going(f: Slot, x: Slot, used: u32, waiting: u32) -> Turn
+// The run goes on with slot f applied to slot x.
+fn going(f: Slot, x: Slot, used: u32, waiting: u32) -> Turn
     ensures { result ≡ going f x used waiting }
 {
-    Turn {
-        status: Status::Going,
-        state: State {
-            f,
-            x,
-            used,
-            waiting,
-        },
-    }
-}
-
-// The run is done with slot t.
-fn done(t: Slot, used: u32) -> Turn
-    ensures { result ≡ done t used }
-{
-    Turn {
-        status: Status::Done,
-        state: State {
-            f: t,
-            x: Slot::ZERO,
-            used,
-            waiting: 0,
-        },
-    }
-}
-
-// There is no slot or no place for what the rule asks for.
-pub(crate) fn stop(status: Status, s: State) -> Turn
-    ensures { result ≡ stop status s }
-{
-    Turn { status, state: s }
+    Turn::Going(State {
+        f,
+        x,
+        used,
+        waiting,
+    })
 }
 
 // The tree in slot t meets the newest frame.
+#[tactic(auto, using(crate::proofs::StepWays::meet_none, crate::proofs::StepWays::meet_newest), unfolding(crate::specs::Step::meet_frame))]
 pub(crate) fn meet(jobs: &mut [u32], t: Slot, used: u32, waiting: u32) -> Turn
     requires { Waits jobs.old used waiting × (t.0 < used) × (used ≤ max_slots) }
     ensures { met jobs.new result ≡ meet jobs.old t used waiting }
 {
     if waiting == 0 {
-        return done(t, used);
+        return Turn::Done { slot: t, used };
     }
     let k = waiting - 1;
-    let frame = frame_at(jobs, k);
-    match frame {
+    match frame_at(jobs, k) {
         Frame::Operand(b, x) => {
             put_frame(jobs, k, Frame::Function(t));
             going(b, x, used, waiting)
@@ -101,19 +74,14 @@ pub(crate) fn meet(jobs: &mut [u32], t: Slot, used: u32, waiting: u32) -> Turn
 }
 
 // The body of the run's loop: rules 1 and 2, or the rest by what the fork's first child is.
+#[tactic(auto, using(crate::proofs::Keeps::children), unfolding(crate::specs::Step::step, crate::specs::Rules::slot_rule, crate::specs::Rules::on_function))]
 pub fn step(words: &mut [u32], jobs: &mut [u32], s: State) -> Turn
     requires { Runnable words.old s × Waits jobs.old s.used s.waiting }
     ensures { at words.new jobs.new result ≡ step words.old jobs.old s }
 {
-    let f = s.f;
-    let x = s.x;
-    let function = node_at(words, f);
-    match function {
-        Node::Leaf => make(words, jobs, s, Node::Stem(x)),
-        Node::Stem(a) => make(words, jobs, s, Node::Fork(a, x)),
-        Node::Fork(g, c) => {
-            let first = node_at(words, g);
-            on_fork(words, jobs, s, first, c)
-        }
+    match node_at(words, s.f) {
+        Node::Leaf => make(words, jobs, s, Node::Stem(s.x)),
+        Node::Stem(a) => make(words, jobs, s, Node::Fork(a, s.x)),
+        Node::Fork(g, c) => on_fork(words, jobs, s, node_at(words, g), c),
     }
 }

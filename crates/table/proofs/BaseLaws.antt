@@ -9,40 +9,24 @@ use lib.Seq.{take-append_seam, drop-append_seam}
 use lib.Dec.{ltb}
 use lib.IntN.{ℤ, pos, negsuc}
 use borrow.Author.Tests.{lt-ltb, le-ltb, ltb-true, ltb-false}
-use Rattle.table.specs.declared.base.Base.{Base}
-use Rattle.table.specs.declared.base.Base.TheVariants.{At, Outside}
+use Rattle.std.specs.Prelude.{Option, Some, None}
 use Rattle.table.specs.Base.{base_of, at_base, from_base}
 
--- ---- the test
+-- ---- what the test tells
 
--- a negative base, one past the end, one in the table
-pub base_negative : {z : ℤ} (len : ℕ) → (n : ℕ) × (z ≡ negsuc n) → Outside ≡ base_of z len
-unfolding base_of
-base_negative len p = rw p.1
-
-module _ {z : ℤ} {b len : ℕ} (e : z ≡ pos b) where
-  pub base_past : len < b → Outside ≡ base_of z len
-  unfolding base_of
-  base_past h = rw e (simp (lt-ltb _ _ h))
-
-  pub base_in : b ≤ len → At b ≡ base_of z len
-  unfolding base_of
-  base_in h = rw e (simp (le-ltb _ _ h))
-
--- what the answer tells
-odd : {P : Type 0} {b : ℕ} → Outside ≡ At b → P
+odd : {P : Type 0} {b : ℕ} → None ≡ Some b → P
 odd e = let z : ◌≡◌ {A = ℕ} 0 1 = cc in absurd (omega arith)
 
-pub base_at : (z : ℤ) (b len : ℕ) → base_of z len ≡ At b → (z ≡ pos b) × (b ≤ len)
+pub base_at : (z : ℤ) (b len : ℕ) → base_of z len ≡ Some b → (z ≡ pos b) × (b ≤ len)
 unfolding base_of
 base_at (negsuc n) b len e = odd e
 base_at (pos n) b len e = go (ltb len n) refl e
   where
-    go : (t : Bool) → ltb len n ≡ t → cond t Outside (At n) ≡ At b → (pos n ≡ pos b) × (b ≤ len)
+    go : (t : Bool) → ltb len n ≡ t → cond t None (Some n) ≡ Some b → (pos n ≡ pos b) × (b ≤ len)
     go true l q = odd q
     go false l q = let same : n ≡ b = cc in (ap pos same, omega (arith, ltb-false len n l))
 
-pub base_told : (z : ℤ) (b len : ℕ) {p : Base} → p ≡ base_of z len → p ≡ At b → b ≤ len
+pub base_told : (z : ℤ) (b len : ℕ) {p : Option ℕ} → p ≡ base_of z len → p ≡ Some b → b ≤ len
 base_told z b len e h = (base_at z b len (sym e ∙ h)).1
 
 -- ---- what comes of a table
@@ -53,20 +37,20 @@ module _ {A : Type 0} (w : List ℕ) (refused : A) (comes : List ℕ → List �
   from_negative b = refl
 
   pub from_past : (b : ℕ) → length w < b → from_base w (pos b) refused comes ≡ refused
-  unfolding from_base
-  from_past b h = rw (← base_past {z = pos b} refl h)
+  unfolding from_base base_of
+  from_past b h = simp (lt-ltb _ _ h)
 
   pub from_inside : (b : ℕ) → b ≤ length w → from_base w (pos b) refused comes ≡ comes (take b w) (drop b w)
-  unfolding from_base
-  from_inside b h = rw (← base_in {z = pos b} refl h)
+  unfolding from_base base_of
+  from_inside b h = simp (le-ltb _ _ h)
 
   -- by what the test answered
-  module _ (base : ℤ) (p : Base) (e : p ≡ base_of base (length w)) where
-    pub from_outside : p ≡ Outside → refused ≡ from_base w base refused comes
+  module _ (base : ℤ) (p : Option ℕ) (e : p ≡ base_of base (length w)) where
+    pub from_outside : p ≡ None → refused ≡ from_base w base refused comes
     unfolding from_base
     from_outside h = ap (at_base w refused comes) (sym h ∙ e)
 
-    pub from_at : (b : ℕ) → p ≡ At b → comes (take b w) (drop b w) ≡ from_base w base refused comes
+    pub from_at : (b : ℕ) → p ≡ Some b → comes (take b w) (drop b w) ≡ from_base w base refused comes
     unfolding from_base
     from_at b h = ap (at_base w refused comes) (sym h ∙ e)
 
@@ -77,7 +61,7 @@ module _ {A : Type 0} (w : List ℕ) (refused : A) (comes : List ℕ → List �
   by_base P negative past inside (negsuc b) = negative b
   by_base P negative past inside (pos b) = go (ltb (length w) b) refl
     where
-      go : (t : Bool) → ltb (length w) b ≡ t → P (pos b) (at_base w refused comes (cond t Outside (At b)))
+      go : (t : Bool) → ltb (length w) b ≡ t → P (pos b) (at_base w refused comes (cond t None (Some b)))
       go true l = past b (ltb-true (length w) b l)
       go false l = inside b (ltb-false (length w) b l)
 
@@ -96,10 +80,10 @@ module _ {A : Type 0} (refused : A) where
   unfolding from_base
   from_blind w v base comes long same = rw long (go (base_of base (length v)) refl)
     where
-      go : (p : Base) → base_of base (length v) ≡ p
+      go : (p : Option ℕ) → base_of base (length v) ≡ p
           → at_base w refused (λ _ part. comes part) p ≡ at_base v refused (λ _ part. comes part) p
-      go Outside e = refl
-      go (At b) e = ap comes (same b (base_at base b (length v) e).0)
+      go None e = refl
+      go (Some b) e = ap comes (same b (base_at base b (length v) e).0)
 
 -- what comes of a table goes through a function
 pub from_through : {A B : Type 0} (g : A → B) (w : List ℕ) (base : ℤ) (refused : A) (comes : List ℕ → List ℕ → A) (refused' : B)
@@ -109,6 +93,6 @@ pub from_through : {A B : Type 0} (g : A → B) (w : List ℕ) (base : ℤ) (ref
 unfolding from_base
 from_through g w base refused comes refused' comes' e each = go (base_of base (length w))
   where
-    go : (p : Base) → at_base w refused' comes' p ≡ g (at_base w refused comes p)
-    go Outside = e
-    go (At b) = each b
+    go : (p : Option ℕ) → at_base w refused' comes' p ≡ g (at_base w refused comes p)
+    go None = e
+    go (Some b) = each b

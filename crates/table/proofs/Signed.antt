@@ -1,28 +1,13 @@
--- What the test of a signed number against 0, and a cast of it, tell.
-use Prim.Native.Nat.{ℕ, ◌<◌}
-use mathlib.Core.Path.{◌≡◌, refl, subst}
-use mathlib.Core.Bool.{Bool, true, false}
+-- What is known of a signed argument: its bits, and a cast of one that is not negative.
+use Prim.Native.Nat.{ℕ}
+use mathlib.Core.Path.{◌≡◌}
 use native.Mathlib.Omega.{arith}
 use lib.IntN.{ℤ, pos, negsuc, nat_abs}
-use lib.Signed.{lt_z, non_neg}
+use lib.Signed.{non_neg}
 use lib.Dec.{T}
 use mir.Syntax.{w32, w64}
 use mir.Val.{Fits, SFits, to_z, of_z}
 use mir.ValLaws.{to_z-of_z}
-use borrow.Author.Tests.{ltb-true}
-
-negative : (z : ℤ) → lt_z z (pos 0) ≡ true → (n : ℕ) × (z ≡ negsuc n)
-negative (pos n) e = absurd (let h : n < 0 = ltb-true n 0 e in omega arith)
-negative (negsuc n) e = (n, refl)
-
-plain : (z : ℤ) → lt_z z (pos 0) ≡ false → z ≡ pos (nat_abs z)
-plain (pos n) e = refl
-plain (negsuc n) e = absurd (subst (λ (b : Bool). T b) e tt)
-
-plain_fits : (z : ℤ) → SFits w32 z → lt_z z (pos 0) ≡ false → T (non_neg z) × Fits w32 (nat_abs z) × Fits w64 (nat_abs z)
-plain_fits (pos n) f e =
-    (tt, record { fits = omega (arith, f.sfits) }, record { fits = omega (arith, f.sfits) })
-plain_fits (negsuc n) f e = absurd (subst (λ (b : Bool). T b) e tt)
 
 natural_fits : (z : ℤ) → SFits w32 z → z ≡ pos (nat_abs z) → T (non_neg z) × Fits w64 (nat_abs z)
 natural_fits (pos n) f e = (tt, record { fits = omega (arith, f.sfits) })
@@ -36,22 +21,3 @@ module _ (z : ℤ) (f : SFits w32 z) where
   -- a number that is not negative may be cast to usize
   pub cast_natural : z ≡ pos (nat_abs z) → T (non_neg (to_z w32 (of_z w32 z))) × Fits w64 (nat_abs (to_z w32 (of_z w32 z)))
   cast_natural e = rw as_passed (natural_fits z f e)
-
-  -- the test `z < 0` holds of negative numbers alone
-  pub below_zero : lt_z (to_z w32 (of_z w32 z)) (pos 0) ≡ true → (n : ℕ) × (z ≡ negsuc n)
-  below_zero e = negative z (rw as_passed at e)
-
-  module _ (e : lt_z (to_z w32 (of_z w32 z)) (pos 0) ≡ false) where
-    -- a number that the test passes over is its own cast
-    pub not_below : z ≡ pos (nat_abs (to_z w32 (of_z w32 z)))
-    not_below = rw as_passed (plain z (rw as_passed at e))
-
-    all_fit : T (non_neg z) × Fits w32 (nat_abs z) × Fits w64 (nat_abs z)
-    all_fit = plain_fits z f (rw as_passed at e)
-
-    -- and may be cast to u32 and to usize
-    pub cast_32 : T (non_neg (to_z w32 (of_z w32 z))) × Fits w32 (nat_abs (to_z w32 (of_z w32 z)))
-    cast_32 = rw as_passed (all_fit.0, all_fit.1)
-
-    pub cast_64 : T (non_neg (to_z w32 (of_z w32 z))) × Fits w64 (nat_abs (to_z w32 (of_z w32 z)))
-    cast_64 = rw as_passed (all_fit.0, all_fit.2)

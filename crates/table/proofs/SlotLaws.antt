@@ -1,7 +1,7 @@
 -- Laws of slots: what a slot holds after a node was written, and which numbers name a slot.
 use Prim.Native.Nat.{ℕ, ◌+◌, ◌*◌, ◌/◌, ◌%◌, ◌≤◌, ◌<◌}
 use mathlib.Core.Path.{◌≡◌, refl, sym, ap, ◌∙◌}
-use mathlib.Core.Bool.{true, false, false≢true}
+use mathlib.Core.Bool.{true, false≢true}
 use mathlib.Core.List.{List}
 use mathlib.Core.Logic.{inl, inr}
 use native.Mathlib.Omega.{arith}
@@ -9,7 +9,6 @@ use native.Mathlib.Numerals.{add-one}
 use native.Mathlib.Decide.{dec_lt, ℕ_discrete}
 use lib.ListN.{length, get_or, length-set}
 use lib.Seq.{get_or-set_same, get_or-set_other}
-use lib.Dec.{ltb}
 use lib.IntN.{ℤ, pos, negsuc, nat_abs}
 use borrow.Author.Tests.{lt-ltb, ltb-true}
 use Rattle.table.specs.declared.slots.Node.{Node}
@@ -107,19 +106,10 @@ module _ (w : List ℕ) (i : ℕ) (n : Node) where
   unfolding node_at first_at second_at
   node_other k h = rw (first_other k h, second_other k h)
 
-pub used_natural : {z : ℤ} {n : ℕ} (used : ℕ) → z ≡ pos n → ltb n used ≡ is_used z used
-unfolding is_used
-used_natural used e = rw e
-
 -- a number below the used slots names one of them
 pub used_in : {z : ℤ} {n used : ℕ} → z ≡ pos n → n < used → is_used z used ≡ true
 unfolding is_used
 used_in e h = rw e (lt-ltb _ _ h)
-
--- a negative number does not
-pub used_negative : {z : ℤ} (used : ℕ) → (n : ℕ) × (z ≡ negsuc n) → false ≡ is_used z used
-unfolding is_used
-used_negative used p = rw p.1
 
 -- what does is a slot's number, and below them
 pub used_slot : (z : ℤ) (used : ℕ) → is_used z used ≡ true → (z ≡ pos (nat_abs z)) × (nat_abs z < used)

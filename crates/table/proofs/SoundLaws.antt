@@ -1,29 +1,22 @@
 -- Laws of sound slots: their words are those of a node, and its children's slots are lower.
 use Prim.Native.Nat.{ℕ, zero, suc, ◌+◌, ◌*◌, ◌≤◌, ◌<◌}
 use mathlib.Core.Path.{◌≡◌, refl, sym, ◌∙◌, subst}
-use mathlib.Core.Bool.{Bool, true, false, ◌&&◌, false≢true}
+use mathlib.Core.Bool.{true, false, ◌&&◌, false≢true}
 use mathlib.Core.List.{List}
-use mathlib.Core.Logic.{◌⊎◌, inl, inr, ⊎_elim, ◌↔◌}
+use mathlib.Core.Logic.{⊎_elim, ◌↔◌}
 use native.Mathlib.Omega.{arith}
 use native.Mathlib.Numerals.{add-one}
 use native.Mathlib.Decide.{dec_lt}
 use lib.Dec.{leb, eqb}
 use lib.ListN.{get_or}
 use borrow.Author.Tests.{le-leb, leb-true, eq-eqb, eqb-true}
+use Rattle.std.proofs.lemmas.Bool.{and_parts, and_cases}
 use Rattle.table.specs.declared.slots.Node.{Node}
 use Rattle.table.specs.declared.slots.Node.TheVariants.{Leaf, Stem, Fork}
 use Rattle.table.specs.Slots.{room, first_word, second_word, first_at, second_at, node_of, node_at, put_node, Below}
 use Rattle.table.specs.Slots.{SameSlots}
 use Rattle.table.specs.Sound.{slot_sound, sound_at, sound, SlotsPass, SoundSlot, SoundSlots, SlotsSoundExactly}
 use Rattle.table.proofs.SlotLaws.{in_room, Has, room_put, put_here, first_other, second_other}
-
-pub both_true : (a b : Bool) → a && b ≡ true → (a ≡ true) × (b ≡ true)
-both_true true b e = (refl, e)
-both_true false b e = absurd (false≢true e)
-
-one_false : (a b : Bool) → a && b ≡ false → (a ≡ false) ⊎ (b ≡ false)
-one_false true b e = inr e
-one_false false b e = inl e
 
 -- ---- what the test says
 
@@ -33,15 +26,15 @@ module _ (w : List ℕ) where
   slot_sound_lem zero =
       let p = get_or w 0 0 in
       let q = get_or w 1 0 in (
-        λ e. let (a, b) = both_true (eqb p 0) (eqb q 0) e in (eqb-true p 0 a, eqb-true q 0 b),
+        λ e. let (a, b) = and_parts (eqb p 0) (eqb q 0) e in (eqb-true p 0 a, eqb-true q 0 b),
         λ s. rw (eq-eqb p 0 s.0, eq-eqb q 0 s.1),
       )
   slot_sound_lem (suc i) =
       let p = get_or w (2 * suc i) 0 in
       let q = get_or w (2 * suc i + 1) 0 in (
         λ e.
-            let (a, r) = both_true (leb 1 p) (leb p (suc i) && leb q (suc i)) e in
-            let (b, c) = both_true (leb p (suc i)) (leb q (suc i)) r in
+            let (a, r) = and_parts (leb 1 p) (leb p (suc i) && leb q (suc i)) e in
+            let (b, c) = and_parts (leb p (suc i)) (leb q (suc i)) r in
             (leb-true 1 p a, leb-true p (suc i) b, leb-true q (suc i) c),
         λ s. rw (le-leb 1 p s.0, le-leb p (suc i) s.1, le-leb q (suc i) s.2),
       )
@@ -51,7 +44,7 @@ module _ (w : List ℕ) where
   each_sound_lem zero = (λ e i h. absurd (omega arith), λ h. refl)
   each_sound_lem (suc n) = (
     λ e i h.
-        let (p, q) = both_true (sound w n) (sound_at w n) e in
+        let (p, q) = and_parts (sound w n) (sound_at w n) e in
         elim (dec_lt i n) [
           | yes g ↦ (each_sound_lem n).0 p i g
           | no g ↦ let s : n ≡ i = omega (arith, g) in subst (SoundSlot w) s ((slot_sound_lem n).0 q)
@@ -67,7 +60,7 @@ module _ (w : List ℕ) where
       ⊎_elim
       (λ h. let s = sound_breaks n h in (s.0, omega (arith, s.1), s.2))
       (λ h. (n, omega arith, λ s. false≢true (sym h ∙ (slot_sound_lem n).1 s)))
-      (one_false (sound w n) (sound_at w n) e)
+      (and_cases (sound w n) (sound_at w n) e)
 
 pub slots_sound : SlotsSoundExactly
 slots_sound w n = (

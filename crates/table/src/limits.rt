@@ -17,10 +17,6 @@ impl Limit {
     pub fn of(self, count: usize) -> u32
         ensures { result ≡ at_most self.0 count }
     {
-        if count < self.0 as usize {
-            count as u32
-        } else {
-            self.0
-        }
+        count.min(self.0 as usize) as u32
     }
 }

@@ -7,11 +7,11 @@ ghost use Rattle.table.specs.Sound.{slot_sound, sound};
 use crate::limits::Limit;
 
 // A slot's number, as wide as an index: two narrower ones would share a register in the run's loop.
-#[derive(Clone, Copy)]
+#[derive(Clone, Copy, Debug, PartialEq, Eq)]
 pub struct Slot(pub usize);
 
 // What a slot holds: the slots of a node's children.
-#[derive(Clone, Copy)]
+#[derive(Clone, Copy, Debug, PartialEq, Eq)]
 pub enum Node {
     Leaf,
     Stem(Slot),
@@ -25,18 +25,16 @@ impl Slot {
     // The words of a slot.
     const WORDS: usize = 2;
 
-    // Whether a number names one of the used slots; a negative one names none.
+    // Whether a number names one of the used slots; a negative one names none. (With try_from a run of few steps is a tenth slower.)
+    #[tactic(auto, unfolding(crate::specs::Slots::is_used))]
     pub fn is_used(i: i32, used: u32) -> bool
         ensures { result ≡ is_used i used }
     {
-        if i < 0 {
-            return false;
-        }
-        let n = i as u32;
-        n < used
+        i >= 0 && (i as u32) < used
     }
 
-    // The slot that a number names.
+    // The slot that a number names. No From, since it asks of its caller that the number is not negative.
+    #[tactic(auto, using(crate::proofs::Signed::as_passed, crate::proofs::Signed::cast_natural))]
     pub fn named(i: i32) -> Slot
         requires { i ≡ pos (nat_abs i) }
         ensures { result ≡ named_slot i }
@@ -44,7 +42,8 @@ impl Slot {
         Slot(i as usize)
     }
 
-    // The number again, as the calls have it.
+    // The number again, as the calls have it. No From, since it asks of its caller that the slot is below the limit; nor does the type
+    // say so, since each word that is read as a slot would have to be shown to be below it.
     pub fn number(self) -> i32
         requires { self.0 < max_slots }
         ensures { result ≡ pos self.0 }
@@ -53,7 +52,8 @@ impl Slot {
     }
 }
 
-// How many slots the table has room for.
+// How many slots the table has room for. That a slot lies in it is asked where it is read or written: a slot knows no table.
+#[tactic(auto, unfolding(crate::specs::Slots::room))]
 pub fn room(words: &[u32]) -> u32
     ensures { result ≡ room words.now }
 {
@@ -61,6 +61,7 @@ pub fn room(words: &[u32]) -> u32
 }
 
 // What slot i holds.
+#[tactic(auto, using(crate::proofs::SlotWays::node_leaf, crate::proofs::SlotWays::node_stem, crate::proofs::SlotWays::node_fork), unfolding(crate::specs::Slots::room, crate::specs::Slots::first_at, crate::specs::Slots::second_at))]
 pub fn node_at(words: &[u32], i: Slot) -> Node
     requires { i.0 < room words.now }
     ensures { result ≡ node_at words.now i.0 }
@@ -78,6 +79,7 @@ pub fn node_at(words: &[u32], i: Slot) -> Node
 }
 
 // Writes the two words of slot i.
+#[tactic(auto, unfolding(crate::specs::Slots::room, crate::specs::Slots::put_words))]
 fn put_words(words: &mut [u32], i: Slot, first: u32, second: u32)
     requires { i.0 < room words.old }
     ensures { words.new ≡ put_words words.old i.0 first second }
@@ -88,6 +90,7 @@ fn put_words(words: &mut [u32], i: Slot, first: u32, second: u32)
 }
 
 // Writes a node whose children have lower slots.
+#[tactic(auto, unfolding(crate::specs::Slots::room, crate::specs::Slots::put_node))]
 pub fn put_node(words: &mut [u32], i: Slot, n: Node)
     requires { (i.0 < room words.old) × Below i.0 n }
     ensures { words.new ≡ put_node words.old i.0 n }
@@ -100,34 +103,27 @@ pub fn put_node(words: &mut [u32], i: Slot, n: Node)
 }
 
 // Whether slot i may have these words.
+#[tactic(auto, using(crate::proofs::SoundTest::slot_tested))]
 fn slot_sound(i: u32, first: u32, second: u32) -> bool
     ensures { result ≡ slot_sound i first second }
 {
-    if first > i {
-        return false;
+    if i == 0 {
+        return first == 0 && second == 0;
     }
-    if second > i {
-        return false;
-    }
-    if i > 0 {
-        return first > 0;
-    }
-    true
+    1 <= first && first <= i && second <= i
 }
 
 // Whether the first `used` slots are sound.
+#[tactic(auto, using(crate::proofs::SoundTest::sound_none, crate::proofs::SoundTest::sound_more, crate::proofs::SoundTest::sound_broken), unfolding(crate::specs::Slots::room, crate::specs::Slots::first_at, crate::specs::Slots::second_at))]
 pub fn sound(words: &[u32], used: u32) -> bool
     requires { used ≤ room words.now }
     ensures { result ≡ sound words.now used }
 {
-    let mut i = Slot::ZERO.0 as u32;
-    while i < used {
+    for i in 0..used {
         let at = Slot::WORDS * (i as usize);
-        let good = slot_sound(i, words[at], words[at + 1]);
-        if !good {
+        if !slot_sound(i, words[at], words[at + 1]) {
             return false;
         }
-        i += 1;
     }
     true
 }

@@ -1,11 +1,12 @@
 -- Texts that are put one after another.
-use Prim.Native.Nat.{ℕ, ◌+◌, ◌-◌, ◌≤◌, ◌<◌}
+use Prim.Native.Nat.{ℕ, ◌+◌, ◌-◌, ◌≤◌}
 use mathlib.Core.Path.{◌≡◌, refl, sym, ap, ◌∙◌}
 use mathlib.Core.List.{List, [], ◌++◌, append_assoc, append-nil}
 use native.Mathlib.Omega.{arith}
-use lib.ListN.{length, take, drop, get_or, set, length-append, length-take}
-use lib.Seq.{take_all, take_at, drop-cons, drop-drop, drop-append-add, length-take-le}
-use Rattle.lists.proofs.Filled.{Filled, filled_from, filled_on}
+use lib.ListN.{length, take, drop, length-append, length-take}
+use lib.Seq.{drop-drop}
+use borrow.Rule.Slice.PartMut.{put_mid}
+use Rattle.std.proofs.lemmas.Slice.{take-put_mid, drop-put_mid}
 use Rattle.text.specs.Put.{Put}
 
 -- what stands after a later place stays where what stands after an earlier one does
@@ -37,32 +38,12 @@ pub at_start : {text before after : List ℕ} {r : ℕ} → Put text before 0 af
 at_start {text} {before} {after} {r} p =
     (omega (arith, length-take r after, ap length p.holds, p.ends), p.holds, p.stays)
 
--- The buffer is filled with its own bytes to the place, and then with the text.
-module _ (t before : List ℕ) (at : ℕ) (inside : at + length t ≤ length before) where
-  own : length (take at before) ≡ at
-  own = length-take-le at before (omega arith)
-
-  whole : length (take at before ++ t) ≡ at + length t
-  whole = omega (arith, length-append (take at before) t, own)
-
-  pub put_start : Filled (take at before ++ t) before before (at + 0)
-  put_start =
-      let s : at + 0 ≡ at = omega arith in
-      rw s (filled_from at (omega (arith, whole)) (sym (take_at (take at before) t at own)))
-
-  module _ {out : List ℕ} {i : ℕ} (f : Filled (take at before ++ t) before out (at + i)) where
-    -- a byte more
-    pub put_on : i < length t → Filled (take at before ++ t) before (set out (at + i) (get_or t i 0)) (at + (i + 1))
-    put_on h =
-        let s : at + (i + 1) ≡ at + i + 1 = omega arith in
-        let next : drop (at + i) (take at before ++ t) ≡ drop i t =
-        rw own at (drop-append-add (take at before) t i) in
-        rw s (filled_on f (next ∙ drop-cons t i 0 h) (omega (arith, whole)))
-
-    -- all bytes are there
-    pub put_all : i ≤ length t → length t ≤ i → Put t before at out (at + i)
-    put_all a b = record {
-      ends = omega arith;
-      holds = f.done ∙ take_all (at + i) (take at before ++ t) (omega (arith, whole));
-      stays = f.rest;
-    }
+-- a text that is copied into the part of a buffer that is as long
+pub put_copied : (t u before : List ℕ) (at n : ℕ) → n ≡ length t → u ≡ t → at + length t ≤ length before →
+    Put t before at (put_mid at n before u) (at + length t)
+put_copied t u before at n e f h =
+    rw f (record {
+      ends = refl;
+      holds = take-put_mid at n before t (at + length t) refl (omega arith);
+      stays = drop-put_mid at n before t (at + length t) (omega arith) (omega arith) (sym e);
+    })

@@ -1,4 +1,6 @@
-// Text in a lent buffer. Each function puts a text at a place and answers the place after it; all other bytes stay.
+// Text in a lent buffer. Each function puts a text at a place and answers the place after it; all other bytes stay. By hand and not by
+// `write!`, whose contracts do not say which bytes are written; the buffer and the place stay two values, so that the contracts can say
+// what a buffer was before and after.
 #![tactic(auto)]
 
 ghost use Rattle.std.specs.Prelude.{◌+◌, ◌≤◌, length};
@@ -10,15 +12,12 @@ pub fn put_bytes(out: &mut [u8], at: usize, t: &[u8]) -> usize
     requires { at + length t.now ≤ length out.old }
     ensures { Put t.now out.old at out.new result }
 {
-    let mut i = 0;
-    while i < t.len() {
-        out[at + i] = t[i];
-        i += 1;
-    }
-    at + i
+    let end = at + t.len();
+    out[at..end].copy_from_slice(t);
+    end
 }
 
-// Puts a number in decimal digits.
+// Puts a number in decimal digits, by a fixed buffer: no heap.
 pub fn put_decimal(out: &mut [u8], at: usize, n: u32) -> usize
     requires { at + length (decimal n) ≤ length out.old }
     ensures { Put (decimal n) out.old at out.new result }

@@ -1,21 +1,21 @@
 -- Laws of the exports of a manifest that has the stated shape: how many there are, and where their hashes stand.
+use Rattle.std.specs.Prelude.{Some}
 use Prim.Native.Nat.{ℕ, ◌+◌, ◌≤◌}
 use mathlib.Core.Path.{◌≡◌, refl}
 use mathlib.Core.List.{List}
 use lib.ListN.{length}
 use Rattle.wire.proofs.Spans.{number_value}
 use Rattle.manifest_shape.specs.declared.Layout.{Layout}
-use Rattle.manifest_shape.specs.declared.Manifest.TheVariants.{Shape}
 use Rattle.manifest_shape.specs.Shape.{manifest_of}
 use Rattle.manifest.specs.Content.{count_at}
 use Rattle.manifest.specs.Judged.{exports_of}
 use Rattle.manifest.proofs.Counted.{exports_laid}
-use Rattle.references.specs.declared.Reference.TheVariants.{Export}
+use Rattle.manifest.specs.declared.listed.Reference.TheVariants.{Export}
 use Rattle.references.specs.References.{export_hashes, hashes_from, hashes_at}
 use Rattle.references.proofs.Hashes.{hashes_exports}
 use Rattle.unpacking.specs.Ready.{ListedIn}
 
-module _ (m : List ℕ) {l : Layout} (e : manifest_of m ≡ Shape l) where
+module _ (m : List ℕ) {l : Layout} (e : manifest_of m ≡ Some l) where
   pub exports_inside : l.exports + 4 ≤ length m
   exports_inside = (number_value m l.exports 4 refl (exports_laid m e).number).0
 

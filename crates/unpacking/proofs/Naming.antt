@@ -1,4 +1,5 @@
 -- Laws of writing the slots of the exports: a turn of the loop that writes one.
+use Rattle.std.specs.Prelude.{Option, Some, None}
 use Prim.Native.Nat.{ℕ, ◌+◌, ◌-◌, ◌≤◌, ◌<◌}
 use mathlib.Core.Path.{◌≡◌, refl, ap, ◌∙◌}
 use mathlib.Core.List.{List, [], ◌∷◌, ◌++◌}
@@ -6,12 +7,11 @@ use native.Mathlib.Nat.{sub-zero}
 use native.Mathlib.Omega.{arith}
 use lib.ListN.{length, set, drop, length-drop}
 use Rattle.lists.proofs.Filled.{Filled, next_left, filled_none, filled_on, filled_all}
-use Rattle.manifest_shape.specs.declared.parts.Parsed.{Parsed}
-use Rattle.manifest_shape.specs.declared.parts.Parsed.TheVariants.{To, Bad}
 use Rattle.manifest.proofs.Lists.{list_step, list_stop}
 use Rattle.nodes.specs.Records.{NodeRecord as Record}
-use Rattle.references.specs.declared.Reference.TheVariants.{Export}
-use Rattle.references.specs.References.{reference_end, reference_hash, hashes_from}
+use Rattle.manifest.specs.declared.listed.Reference.TheVariants.{Export}
+use Rattle.manifest.specs.Content.{reference_end, reference_hash}
+use Rattle.references.specs.References.{hashes_from}
 use Rattle.unpacking.specs.Written.{slot_named, slots_named}
 
 slots_length : (rs : List Record) (hs : List (List ℕ)) → length (slots_named rs hs) ≡ length hs
@@ -42,8 +42,8 @@ module _ (m : List ℕ) (rs : List Record) (n at : ℕ) (old : List ℕ) where
         rw e at (filled_all f.fill (omega (arith, count)))
 
     -- where some are left; z stands for the end of the next, as the call answered it
-    module _ (l : j < n) {z : Parsed} (e : z ≡ reference_end m Export p) where
-      pub naming_bad : {A : Type 0} → z ≡ Bad → A
+    module _ (l : j < n) {z : Option ℕ} (e : z ≡ reference_end m Export p) where
+      pub naming_bad : {A : Type 0} → z ≡ None → A
       naming_bad g =
           let none = list_stop (reference_end m Export) (reference_hash m Export) (n - j) p (omega arith) e g in
           absurd
@@ -57,7 +57,7 @@ module _ (m : List ℕ) (rs : List Record) (n at : ℕ) (old : List ℕ) where
           ))
 
       -- h and x stand for its hash and its slot
-      pub naming_on : {q : ℕ} → z ≡ To q → n ≤ length old → {h : List ℕ} → h ≡ reference_hash m Export p →
+      pub naming_on : {q : ℕ} → z ≡ Some q → n ≤ length old → {h : List ℕ} → h ≡ reference_hash m Export p →
           {x : ℕ} → x ≡ (slot_named rs h).0 → Naming m rs n at old (set out j x) q (j + 1)
       unfolding slots_named
       naming_on {q} g room eh {x} ex =

@@ -1,4 +1,5 @@
 -- Where all records are placed: each has its slot, its children have lower ones, and its node is that of its links.
+use Rattle.std.specs.Prelude.{Option, Some, None}
 use Prim.Native.Nat.{ℕ, suc, ◌+◌, ◌*◌, ◌≤◌, ◌<◌}
 use mathlib.Core.Path.{◌≡◌, refl, sym, ap, ◌∙◌}
 use mathlib.Core.List.{List}
@@ -9,8 +10,6 @@ use lib.Seq.{get_or-take}
 use borrow.Author.Tests.{ltb-false}
 use Rattle.lists.specs.Lists.{index_of}
 use Rattle.lists.specs.Among.{Among, here, there}
-use Rattle.lists.specs.declared.Found.{Found}
-use Rattle.lists.specs.declared.Found.TheVariants.{Index, Nothing}
 use Rattle.lists.proofs.Index.{index_is, index_none}
 use Rattle.table.specs.declared.slots.Slot.{Slot}
 use Rattle.table.specs.Slots.{slot}
@@ -49,16 +48,16 @@ module _ {rs : List Record} {slots : List ℕ} (h : Slotted rs slots) where
   slot_is i = rw h.slots_are
 
   -- the slot of the record with a hash; f and x stand for what the calls found
-  module _ (t : List ℕ) {f : Found} (e : f ≡ index_of t 0 (hashes rs)) where
-    pub named_there : {i : ℕ} → f ≡ Index i → (i < length slots) × (0 < get_or slots i 0)
+  module _ (t : List ℕ) {f : Option ℕ} (e : f ≡ index_of t 0 (hashes rs)) where
+    pub named_there : {i : ℕ} → f ≡ Some i → (i < length slots) × (0 < get_or slots i 0)
     named_there {i} g =
         slot_there i (omega (arith, (index_is t 0 (hashes rs) i (sym e ∙ g)).1, hashes_length rs))
 
-    pub named_found : {i : ℕ} → f ≡ Index i → {x : Slot} → x ≡ slot_at slots i → x ≡ slot_named rs t
+    pub named_found : {i : ℕ} → f ≡ Some i → {x : Slot} → x ≡ slot_at slots i → x ≡ slot_named rs t
     unfolding slot_named
     named_found {i} g k = k ∙ slot_is i ∙ rw (← e, g)
 
-    pub named_lost : f ≡ Nothing → slot 0 ≡ slot_named rs t
+    pub named_lost : f ≡ None → slot 0 ≡ slot_named rs t
     unfolding slot_named
     named_lost g = rw (← e, g)
 
@@ -67,10 +66,10 @@ module _ {rs : List Record} {slots : List ℕ} (h : Slotted rs slots) where
   unfolding link_of
   named t a = told (index_of t 0 (hashes rs)) refl
     where
-      told : (f : Found) → index_of t 0 (hashes rs) ≡ f →
+      told : (f : Option ℕ) → index_of t 0 (hashes rs) ≡ f →
           (j : ℕ) × (link_to (index_of t 0 (hashes rs)) ≡ suc j) × (slot_at slots j ≡ slot_named rs t)
-      told (Index j) e = (j, ap link_to e ∙ add-one j, named_found t (sym e) refl refl)
-      told Nothing e = absurd (index_none t 0 (hashes rs) e a)
+      told (Some j) e = (j, ap link_to e ∙ add-one j, named_found t (sym e) refl refl)
+      told None e = absurd (index_none t 0 (hashes rs) e a)
 
   -- the node of the links of some children is the node of the children
   node_named : {cs : List (List ℕ)} → Kids cs → ((t : List ℕ) → Among t cs → Among t (hashes rs)) →

@@ -11,7 +11,7 @@ use Rattle.placing.specs.Circles.{ChildLink as Linked}
 use Rattle.nodes.specs.declared.faults.RecordFault.TheVariants.{Child}
 use Rattle.nodes.specs.Records.{NodeRecord as Record, shaped, nodes_of, some_record}
 use Rattle.nodes.specs.Links.{links_of, placed_of, circular}
-use Rattle.references.specs.declared.Reference.TheVariants.{Export}
+use Rattle.manifest.specs.declared.listed.Reference.TheVariants.{Export}
 use Rattle.references.specs.References.{export_hashes, hashes_from}
 use Rattle.unpacking.specs.declared.exports.ExportList.{ExportList}
 

@@ -1,8 +1,6 @@
 -- What an accepted load writes: the nodes in their slots, and the slots of the exports.
-use Rattle.std.specs.Prelude.{ℕ, ◌+◌, ◌-◌, List, [], ◌∷◌, get_or}
+use Rattle.std.specs.Prelude.{ℕ, ◌+◌, ◌-◌, List, [], ◌∷◌, get_or, Option, Some, None}
 use Rattle.lists.specs.Lists.{index_of}
-use Rattle.lists.specs.declared.Found.{Found}
-use Rattle.lists.specs.declared.Found.TheVariants.{Index, Nothing}
 use Rattle.table.specs.declared.slots.Slot.{Slot}
 use Rattle.table.specs.declared.slots.Node.{Node}
 use Rattle.table.specs.declared.slots.Node.TheVariants.{Leaf, Stem, Fork}
@@ -14,9 +12,9 @@ use Rattle.nodes.specs.Links.{placed_of}
 unfoldable pub record_slot : List Record → ℕ → Slot
 record_slot rs i = slot (get_or (placed_of rs).slots i 0 - 1)
 
-abbrev pub slot_found : List Record → Found → Slot
-slot_found rs (Index i) = record_slot rs i
-slot_found rs Nothing = slot 0
+abbrev pub slot_found : List Record → Option ℕ → Slot
+slot_found rs (Some i) = record_slot rs i
+slot_found rs None = slot 0
 
 -- the slot of the record with a hash; a sound bundle asks for none that is not there
 unfoldable pub slot_named : List Record → List ℕ → Slot

@@ -22,26 +22,11 @@ fn node_at(links: &[u32], slots: &[u32], i: usize) -> Node
     ensures { result ≡ linked slots.now (get_or links.now (2 * i) 0)
         (get_or links.now (2 * i + 1) 0) }
 {
-    let a = links[2 * i] as usize;
-    if a == 0 {
-        return Node::Leaf;
+    match (links[2 * i] as usize, links[2 * i + 1] as usize) {
+        (0, _) => Node::Leaf,
+        (a, 0) => Node::Stem(slot_at(slots, a - 1)),
+        (a, b) => Node::Fork(slot_at(slots, a - 1), slot_at(slots, b - 1)),
     }
-    let first = slot_at(slots, a - 1);
-    let b = links[2 * i + 1] as usize;
-    if b == 0 {
-        return Node::Stem(first);
-    }
-    Node::Fork(first, slot_at(slots, b - 1))
-}
-
-// Writes a record in its slot.
-fn put_record(links: &[u32], slots: &[u32], i: usize, words: &mut [u32])
-    requires { PlacedAt links.now slots.now i × (get_or slots.now i 0 ≤ room words.old) }
-    ensures { words.new ≡ put_node words.old (slot_at slots.now i).0
-        (linked slots.now (get_or links.now (2 * i) 0) (get_or links.now (2 * i + 1) 0)) }
-{
-    let node = node_at(links, slots, i);
-    put_node(words, slot_at(slots, i), node);
 }
 
 // Writes all records of a section.
@@ -50,10 +35,7 @@ pub fn put_records(s: &[u8], links: &[u32], slots: &[u32], words: &mut [u32])
     ensures { words.new
         ≡ written (nodes_of s.now) 0 (nodes_of s.now) words.old }
 {
-    let n = count(s) as usize;
-    let mut i: usize = 0;
-    while i < n {
-        put_record(links, slots, i, words);
-        i += 1;
+    for i in 0..count(s) as usize {
+        put_node(words, slot_at(slots, i), node_at(links, slots, i));
     }
 }

@@ -3,20 +3,17 @@ use Prim.Native.Nat.{ℕ}
 use mathlib.Core.Path.{◌≡◌, refl}
 use mathlib.Core.List.{List, [], ◌∷◌}
 use mathlib.Core.Bool.{Bool, true, false, cond}
-use native.Mathlib.Omega.{arith}
+use Rattle.std.specs.Prelude.{Some, None}
 use Rattle.utf8.specs.Rfc3629.{Octet, Utf8Octets, none, more}
 use Rattle.utf8.specs.Rfc3629.{utf8_1, utf8_2, utf8_3_E0, utf8_3_E1, utf8_3_ED, utf8_3_EE}
 use Rattle.utf8.specs.Rfc3629.{utf8_4_F0, utf8_4_F1, utf8_4_F4}
-use Rattle.utf8.specs.Check.{Range, OctetRow, ◌to◌, ◌then◌, wants, never, utf8_char, in_range, octet_start, octet_step}
+use Rattle.utf8.specs.Check.{Range, OctetRow, ◌to◌, ◌then◌, utf8_char, in_range, octet_start, octet_step}
 use Rattle.utf8.proofs.Laws.{RowOf, here, there, after, start_char, within_in, within_true}
 
 -- s starts with one octet of each range of rs, and a UTF8-octets follows
 pub data Rest : List Range → List ℕ → Type 0 where
   done : {s : List ℕ} → Utf8Octets s → Rest [] s
   next : {lo hi b : ℕ} {rs : List Range} {s : List ℕ} → Octet lo hi b → Rest rs s → Rest ((lo to hi) ∷ rs) (b ∷ s)
-
-pub not_wants : {A : Type 0} {rs : List Range} → never ≡ wants rs → A
-not_wants e = let z : ◌≡◌ {A = ℕ} 0 1 = cc in absurd (omega arith)
 
 -- a UTF8-octets that is not empty: a row of the table has its first octet, and what the row wants follows
 abbrev Opened : List ℕ → Type 0
@@ -57,13 +54,13 @@ closes (there (there (there (there (there (there (there (there (here a))))))))) 
 closes {b = b} {rs = rs} {s = s} (there (there (there (there (there (there (there (there (there x99))))))))) _ = elim x99 [ ]
 
 -- an octet starts a character only by a row that has it
-started : (rows : List OctetRow) {b : ℕ} {rs : List Range} → octet_start rows b ≡ wants rs → RowOf rows b rs
+started : (rows : List OctetRow) {b : ℕ} {rs : List Range} → octet_start rows b ≡ Some rs → RowOf rows b rs
 unfolding octet_start
-started [] e = not_wants e
+started [] e = cc
 started ((lo to hi then ws) ∷ rows) {b} {rs} e = go (in_range (lo to hi) b) refl (started rows) e
   where
-    go : (t : Bool) → in_range (lo to hi) b ≡ t → (octet_start rows b ≡ wants rs → RowOf rows b rs)
-        → cond t (wants ws) (octet_start rows b) ≡ wants rs → RowOf ((lo to hi then ws) ∷ rows) b rs
+    go : (t : Bool) → in_range (lo to hi) b ≡ t → (octet_start rows b ≡ Some rs → RowOf rows b rs)
+        → cond t (Some ws) (octet_start rows b) ≡ Some rs → RowOf ((lo to hi then ws) ∷ rows) b rs
     go true h later f = let q : ws ≡ rs = cc in rw (← q) (here (within_true lo hi b h))
     go false h later f = there (later f)
 
@@ -72,16 +69,16 @@ pub data Taken : List Range → ℕ → List Range → Type 0 where
   begins : {b : ℕ} {rs : List Range} → RowOf utf8_char b rs → Taken [] b rs
   goes : {lo hi b : ℕ} {rs : List Range} → Octet lo hi b → Taken ((lo to hi) ∷ rs) b rs
 
-pub taken : {rs qs : List Range} {b : ℕ} → octet_step rs b ≡ wants qs → Taken rs b qs
+pub taken : {rs qs : List Range} {b : ℕ} → octet_step rs b ≡ Some qs → Taken rs b qs
 unfolding octet_step
 taken {rs = []} e = begins (started utf8_char e)
 taken {rs = (lo to hi) ∷ rs} {qs} {b} e = go (in_range (lo to hi) b) refl e
   where
-    go : (t : Bool) → in_range (lo to hi) b ≡ t → cond t (wants rs) never ≡ wants qs → Taken ((lo to hi) ∷ rs) b qs
+    go : (t : Bool) → in_range (lo to hi) b ≡ t → cond t (Some rs) None ≡ Some qs → Taken ((lo to hi) ∷ rs) b qs
     go true h f = let q : rs ≡ qs = cc in rw (← q) (goes (within_true lo hi b h))
-    go false h f = not_wants f
+    go false h f = cc
 
-pub takes : {rs qs : List Range} {b : ℕ} → Taken rs b qs → octet_step rs b ≡ wants qs
+pub takes : {rs qs : List Range} {b : ℕ} → Taken rs b qs → octet_step rs b ≡ Some qs
 unfolding octet_step
 takes (begins r) = start_char r
 takes (goes {lo = lo} {hi = hi} {b = b} o) = rw (within_in lo hi b o)

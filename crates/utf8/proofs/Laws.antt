@@ -1,49 +1,36 @@
 -- Laws of the definitions of specs/Check.antt that the proofs of the code cite.
-use Prim.Native.Nat.{ℕ, zero, suc, ◌+◌, ◌-◌, ◌≤◌, ◌<◌}
-use mathlib.Core.Path.{◌≡◌, refl, ap, ◌∙◌}
+use Prim.Native.Nat.{ℕ, zero, suc, ◌+◌, ◌≤◌, ◌<◌}
+use mathlib.Core.Path.{◌≡◌, refl, ◌∙◌}
 use mathlib.Core.List.{List, [], ◌∷◌}
-use mathlib.Core.Bool.{Bool, true, false, cond, false≢true}
+use mathlib.Core.Bool.{true, false}
 use native.Mathlib.Omega.{arith}
 use native.Mathlib.Numerals.{add-one}
-use native.Mathlib.Decide.{dec_lt}
-use borrow.Author.Tests.{lt-ltb, le-ltb, le-leb, lt-leb, leb-true, eq-eqb, ne_eqb}
-use lib.Dec.{leb}
-use lib.ListN.{length, get_or, drop, replicate}
-use lib.Seq.{drop-cons, drop-length}
-use Rattle.utf8.specs.declared.Utf8.TheVariants.{Valid, BadAt}
-use Rattle.utf8.specs.declared.Want.{Want}
-use Rattle.utf8.specs.declared.Next.{Next}
-use Rattle.utf8.specs.declared.Next.TheVariants.{Go, Stop}
+use borrow.Author.Tests.{ltb-true, lt-ltb, le-ltb}
+use lib.Dec.{ltb}
+use lib.ListN.{length, get_or, drop}
+use Rattle.std.specs.Prelude.{Some, None}
+use Rattle.std.specs.List.{prefix_len}
+use Rattle.std.proofs.lemmas.Bool.Decides.{nat_tests}
+use Rattle.std.proofs.lemmas.List.{at_drop_more, at_drop_all}
+use Rattle.std.proofs.lemmas.List.Sums.{prefix_len_passes, prefix_len-drop_yes, prefix_len-drop_no, prefix_len-drop_all, prefix_len-le-length}
 use Rattle.utf8.specs.Rfc3629.{Octet}
-use Rattle.utf8.specs.Check.{Range, OctetRow, ◌to◌, ◌then◌, wants, never, tail, utf8_char}
+use Rattle.utf8.specs.Check.{Range, OctetRow, ◌to◌, ◌then◌, utf8_char, bad_at}
 use Rattle.utf8.specs.Check.{in_range, octet_start, octet_step, at_end, check_from, check}
-use Rattle.utf8.specs.State.{tails, wanted, after_of, ascii_length}
+use Rattle.utf8.specs.State.{ascii_length}
 
 -- an octet and a range
 module _ (lo hi b : ℕ) where
   pub within_in : Octet lo hi b → in_range (lo to hi) b ≡ true
   unfolding in_range
-  within_in o = rw (le-leb _ _ o.0, le-leb _ _ o.1)
-
-  within_low : b < lo → in_range (lo to hi) b ≡ false
-  unfolding in_range
-  within_low h = rw (lt-leb _ _ h)
+  within_in o = grind (arith, nat_tests)
 
   within_high : hi < b → in_range (lo to hi) b ≡ false
   unfolding in_range
-  within_high h = rw (lt-leb b hi h) (either (leb lo b))
-    where
-      either : (t : Bool) → cond t false false ≡ false
-      either true = refl
-      either false = refl
+  within_high h = grind (arith, nat_tests)
 
   pub within_true : in_range (lo to hi) b ≡ true → Octet lo hi b
   unfolding in_range
-  within_true = go (leb lo b) refl
-    where
-      go : (t : Bool) → leb lo b ≡ t → cond t (leb b hi) false ≡ true → Octet lo hi b
-      go true l h = (leb-true lo b l, leb-true b hi h)
-      go false l h = absurd (false≢true h)
+  within_true h = (grind (arith, nat_tests), grind (arith, nat_tests))
 
 -- a row has the octet b as a first one, and wants the ranges rs after it
 pub data RowOf : List OctetRow → ℕ → List Range → Type 0 where
@@ -67,138 +54,57 @@ row_from r (there {row = lo to hi then ws} k) = let h : suc hi ≤ _ = row_from 
 
 -- where the rows rise, the row that has an octet is the first that has it
 start_row : (n : ℕ) {b : ℕ} {rows : List OctetRow} {rs : List Range} → Rising n rows → RowOf rows b rs
-    → octet_start rows b ≡ wants rs
+    → octet_start rows b ≡ Some rs
 unfolding octet_start
 start_row n r (here {lo = lo} {hi = hi} {b = b} o) = rw (within_in lo hi b o)
 start_row n r (there {row = lo to hi then ws} {b = b} k) =
     rw (within_high lo hi b (row_from r.2 k)) (start_row (suc hi) r.2 k)
-
--- the first k rows stand before b, and the others after it
-abbrev pub Gap : ℕ → List OctetRow → ℕ → Type 0
-Gap k [] b = Unit {0}
-Gap zero ((lo to hi then rs) ∷ rows) b = (b < lo) × Gap zero rows b
-Gap (suc k) ((lo to hi then rs) ∷ rows) b = (hi < b) × Gap k rows b
-
-pub start_gap : (k : ℕ) (rows : List OctetRow) (b : ℕ) → Gap k rows b → octet_start rows b ≡ never
-unfolding octet_start
-start_gap k [] b g = refl
-start_gap zero ((lo to hi then rs) ∷ rows) b g = rw (within_low lo hi b g.0) (start_gap zero rows b g.1)
-start_gap (suc k) ((lo to hi then rs) ∷ rows) b g = rw (within_high lo hi b g.0) (start_gap k rows b g.1)
 
 -- the table's rows rise, so that an octet starts the row that has it
 rising : Rising 0 utf8_char
 unfolding utf8_char
 rising = omega arith
 
-pub start_char : {b : ℕ} {rs : List Range} → RowOf utf8_char b rs → octet_start utf8_char b ≡ wants rs
+pub start_char : {b : ℕ} {rs : List Range} → RowOf utf8_char b rs → octet_start utf8_char b ≡ Some rs
 start_char = start_row 0 rising
 
--- the two rows of three octets whose second is any tail
-pub start_tails2 : (b : ℕ) → Octet 0xE1 0xEF b → (b ≡ 0xED → ⊥) → octet_start utf8_char b ≡ wants (tail ∷ tail ∷ [])
-unfolding utf8_char
-start_tails2 b o h = elim (dec_lt b 0xED) [
-  | yes l ↦ start_char (after 3 (here (omega arith)))
-  | no l ↦ start_char (after 5 (here (omega (arith, h))))
-]
-
--- a state of the code, and what it wants
-wanted_tails : (n : ℕ) → replicate n tail ≡ wanted (tails n)
-unfolding wanted
-wanted_tails zero = refl
-wanted_tails (suc n) = let m : suc n - 1 ≡ n = omega arith in rw (ne_eqb (suc n) 0 (omega arith), m)
-
-wanted_none : (w : Want) → w.left ≡ 0 → wanted w ≡ []
-unfolding wanted
-wanted_none w h = rw (eq-eqb _ _ h)
-
-wanted_some : (w : Want) → (w.left ≡ 0 → ⊥) → wanted w ≡ (w.low to w.high) ∷ wanted (tails (w.left - 1))
-unfolding wanted
-wanted_some w h =
-    rw (ne_eqb w.left 0 h) (ap (λ (l : List Range). (w.low to w.high) ∷ l) (wanted_tails (w.left - 1)))
-
--- one octet more, in a state of the code
-module _ (w : Want) (b : ℕ) where
-  pub step_start : w.left ≡ 0 → octet_step (wanted w) b ≡ octet_start utf8_char b
-  unfolding octet_step
-  step_start h = rw (wanted_none w h)
-
-  module _ (h : w.left ≡ 0 → ⊥) where
-    pub step_low : b < w.low → octet_step (wanted w) b ≡ never
-    unfolding octet_step
-    step_low l = rw (wanted_some w h, within_low w.low w.high b l)
-
-    pub step_high : w.high < b → octet_step (wanted w) b ≡ never
-    unfolding octet_step
-    step_high l = rw (wanted_some w h, within_high w.low w.high b l)
-
-    pub step_in : Octet w.low w.high b → octet_step (wanted w) b ≡ wants (wanted (tails (w.left - 1)))
-    unfolding octet_step
-    step_in o = rw (wanted_some w h, within_in w.low w.high b o)
-
--- the end of the text, in a state of the code
-module _ (w : Want) (at : ℕ) where
-  pub end_valid : w.left ≡ 0 → at_end (wanted w) at ≡ Valid
-  unfolding at_end
-  end_valid h = rw (wanted_none w h)
-
-  pub end_inside : (w.left ≡ 0 → ⊥) → at_end (wanted w) at ≡ BadAt at
-  unfolding at_end
-  end_inside h = rw (wanted_some w h)
-
--- the text, one octet on and at its end
+-- the text from the place i on: one octet on, at an octet that cannot stand there, and at its end
 module _ (rs : List Range) (s : List ℕ) (i : ℕ) where
-  pub from_go : i < length s → {n : Next} {w : Want} → after_of n ≡ octet_step rs (get_or s i 0) → n ≡ Go w
-      → check_from rs i (drop i s) ≡ check_from (wanted w) (i + 1) (drop (i + 1) s)
+  pub from_go : i < length s → {qs : List Range} → octet_step rs (get_or s i 0) ≡ Some qs
+      → check_from rs i (drop i s) ≡ check_from qs (i + 1) (drop (i + 1) s)
   unfolding check_from
-  from_go h e g = rw (drop-cons s i 0 h, ← e, g, add-one i)
+  from_go h e = rw (at_drop_more (check_from rs i) s i 0 h, e)
 
-  pub from_stop : i < length s → {n : Next} → after_of n ≡ octet_step rs (get_or s i 0) → n ≡ Stop
-      → check_from rs i (drop i s) ≡ BadAt i
+  pub from_stop : i < length s → octet_step rs (get_or s i 0) ≡ None → check_from rs i (drop i s) ≡ bad_at i
   unfolding check_from
-  from_stop h e g = rw (drop-cons s i 0 h, ← e, g)
+  from_stop h e = rw (at_drop_more (check_from rs i) s i 0 h, e)
 
-  pub from_end : i ≡ length s → check_from rs i (drop i s) ≡ at_end rs i
+  pub from_end : length s ≤ i → check_from rs i (drop i s) ≡ at_end rs i
   unfolding check_from
-  from_end e = ap (λ (l : List ℕ). check_from rs i l) (ap (λ (k : ℕ). drop k s) e ∙ drop-length s)
+  from_end h = at_drop_all (check_from rs i) s i h
 
--- the count from i on: one octet on, at an octet that is not counted, and at the end
+-- the check goes on after characters of one octet, as many as there are at the start
+pub from_ascii : (s : List ℕ) (k : ℕ) → k ≤ ascii_length s → check s ≡ check_from [] k (drop k s)
+unfolding check octet_step utf8_char
+from_ascii s zero h = refl
+from_ascii s (suc k) h =
+    let l : get_or s k 0 < 0x80 = ltb-true _ _ (prefix_len_passes (λ b. ltb b 0x80) s k 0 (omega arith)) in
+    let inside : k < length s = omega (arith, prefix_len-le-length (λ b. ltb b 0x80) s) in
+    rw (← add-one) (from_ascii s k (omega arith) ∙ from_go [] s k inside (start_char (here (omega arith))))
+
+-- the octets of one-octet characters that are left from i on: one more, or no more
 module _ (s : List ℕ) (i : ℕ) where
-  pub ascii_go : i < length s → get_or s i 0 < 0x80 → i + ascii_length (drop i s) ≡ i + 1 + ascii_length (drop (i + 1) s)
-  unfolding ascii_length
-  ascii_go h l = rw (drop-cons s i 0 h, lt-ltb (get_or s i 0) 0x80 l, add-one i) (omega arith)
+  pub ascii_on : i < length s → get_or s i 0 < 0x80 →
+      prefix_len (λ b. ltb b 0x80) (drop i s) ≡ 1 + prefix_len (λ b. ltb b 0x80) (drop (i + 1) s)
+  ascii_on l h = prefix_len-drop_yes (λ b. ltb b 0x80) s i 0 l (lt-ltb _ _ h)
 
-  pub ascii_stop : i < length s → 0x80 ≤ get_or s i 0 → i + ascii_length (drop i s) ≡ i
-  unfolding ascii_length
-  ascii_stop h l = rw (drop-cons s i 0 h, le-ltb (get_or s i 0) 0x80 l) (omega arith)
+  pub ascii_ends : i < length s → 0x80 ≤ get_or s i 0 → prefix_len (λ b. ltb b 0x80) (drop i s) ≡ 0
+  ascii_ends l h = prefix_len-drop_no (λ b. ltb b 0x80) s i 0 l (le-ltb _ _ h)
 
-  pub ascii_end : i ≡ length s → i + ascii_length (drop i s) ≡ i
-  unfolding ascii_length
-  ascii_end e = let d : drop i s ≡ [] = ap (λ (k : ℕ). drop k s) e ∙ drop-length s in rw d (omega arith)
+  pub ascii_all : length s ≤ i → prefix_len (λ b. ltb b 0x80) (drop i s) ≡ 0
+  ascii_all l = prefix_len-drop_all (λ b. ltb b 0x80) s i l
 
-pub ascii_inside : (s : List ℕ) → ascii_length s ≤ length s
-unfolding ascii_length
-ascii_inside [] = omega arith
-ascii_inside (b ∷ s) = elim (dec_lt b 0x80) [
-  | yes l ↦ rw (lt-ltb b 0x80 l) (omega (arith, ascii_inside s))
-  | no l ↦ rw (le-ltb b 0x80 (omega arith)) (omega arith)
-]
+pub ruleset ascii_steps = (ascii_on, ascii_ends, ascii_all)
 
--- with nothing wanted, the check goes on after a character of one octet
-from_one : (at b : ℕ) (s : List ℕ) → b < 0x80 → check_from [] at (b ∷ s) ≡ check_from [] (at + 1) s
-unfolding check_from octet_step utf8_char
-from_one at b s l = rw (start_char {b = b} (here (omega arith)))
-
--- and so after all of those at the start
-from_ascii : (at : ℕ) (s : List ℕ) → check_from [] at s ≡ check_from [] (at + ascii_length s) (drop (ascii_length s) s)
-unfolding ascii_length
-from_ascii at [] = let z : at + 0 ≡ at = omega arith in rw z
-from_ascii at (b ∷ s) = elim (dec_lt b 0x80) [
-  | yes l ↦
-      let z : at + suc (ascii_length s) ≡ at + 1 + ascii_length s = omega arith in
-      rw (lt-ltb b 0x80 l, z) (from_one at b s l ∙ from_ascii (at + 1) s)
-  | no l ↦ let z : at + 0 ≡ at = omega arith in rw (le-ltb b 0x80 (omega arith), z)
-]
-
-pub check_ascii : (s : List ℕ) → check s ≡ check_from [] (ascii_length s) (drop (ascii_length s) s)
-unfolding check
-check_ascii s = let z : 0 + ascii_length s ≡ ascii_length s = omega arith in rw z at (from_ascii 0 s)
+-- what the loop of the check starts from, each of its steps, and its end
+pub ruleset check_steps = (from_ascii, prefix_len-le-length, from_go, from_stop, from_end)

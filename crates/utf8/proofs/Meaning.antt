@@ -1,40 +1,37 @@
 -- The check's answers mean what specs/Meaning.antt says.
 use Prim.Native.Nat.{ℕ, suc, ◌+◌, ◌≤◌, ◌<◌}
-use mathlib.Core.Path.{◌≡◌, refl, sym, ap, ◌∙◌}
+use mathlib.Core.Path.{◌≡◌, refl, ap, ◌∙◌}
 use mathlib.Core.List.{List, [], ◌∷◌, ◌++◌, append_assoc}
 use native.Mathlib.Omega.{arith}
 use native.Mathlib.Nat.{le_refl}
 use native.Mathlib.Numerals.{add-one}
 use lib.ListN.{length, take, drop, take-append-drop}
 use lib.Seq.{take-take}
-use Rattle.utf8.specs.declared.Utf8.{Utf8}
-use Rattle.utf8.specs.declared.Utf8.TheVariants.{Valid, BadAt}
+use Rattle.std.specs.Prelude.{Option, Some, None, Ok, Err}
+use Rattle.utf8.specs.declared.BadAt.{BadAt}
 use Rattle.utf8.specs.Rfc3629.{Utf8Octets, none}
-use Rattle.utf8.specs.Check.{Range, OctetRow, ◌to◌, ◌then◌, After, wants, never, utf8_char}
+use Rattle.utf8.specs.Check.{Range, OctetRow, ◌to◌, ◌then◌, utf8_char, Validity, valid, bad_at}
 use Rattle.utf8.specs.Check.{octet_step, at_end, check_from, check, onward}
 use Rattle.utf8.specs.Meaning.{Continues, FirstBad, ValidExactly, BadExactly}
 use Rattle.utf8.proofs.Laws.{RowOf, here, there}
-use Rattle.utf8.proofs.Grammar.{Rest, done, next, Taken, begins, goes, taken, takes, not_wants, rest_back, rest_on}
+use Rattle.utf8.proofs.Grammar.{Rest, done, next, Taken, begins, goes, taken, takes, rest_back, rest_on}
 
 text : {s : List ℕ} → Rest [] s → Utf8Octets s
 text (done u) = u
 
-not_valid : {A : Type 0} {n : ℕ} → BadAt n ≡ Valid → A
-not_valid e = let z : ◌≡◌ {A = ℕ} 0 1 = cc in absurd (omega arith)
-
 -- valid, where the ranges rs are wanted
-valid_rest : (rs : List Range) (at : ℕ) (s : List ℕ) → check_from rs at s ≡ Valid → Rest rs s
+valid_rest : (rs : List Range) (at : ℕ) (s : List ℕ) → check_from rs at s ≡ valid → Rest rs s
 unfolding check_from at_end
 valid_rest [] at [] e = done none
-valid_rest (r ∷ rs) at [] e = not_valid e
+valid_rest (r ∷ rs) at [] e = cc
 valid_rest rs at (b ∷ s) e = go (octet_step rs b) refl (λ qs. valid_rest qs (at + 1) s) e
   where
-    go : (a : After) → octet_step rs b ≡ a → ((qs : List Range) → check_from qs (at + 1) s ≡ Valid → Rest qs s)
-        → onward a (λ qs. check_from qs (at + 1) s) (BadAt at) ≡ Valid → Rest rs (b ∷ s)
-    go (wants qs) h later f = rest_back (taken h) (later qs f)
-    go never h later f = not_valid f
+    go : (a : Option (List Range)) → octet_step rs b ≡ a → ((qs : List Range) → check_from qs (at + 1) s ≡ valid → Rest qs s)
+        → onward a (λ qs. check_from qs (at + 1) s) (bad_at at) ≡ valid → Rest rs (b ∷ s)
+    go (Some qs) h later f = rest_back (taken h) (later qs f)
+    go None h later f = cc
 
-rest_valid : (rs : List Range) (at : ℕ) (s : List ℕ) → Rest rs s → check_from rs at s ≡ Valid
+rest_valid : (rs : List Range) (at : ℕ) (s : List ℕ) → Rest rs s → check_from rs at s ≡ valid
 unfolding check_from at_end
 rest_valid rs at [] (done u) = refl
 rest_valid rs at (b ∷ s) k = let f = rest_on k in rw (takes f.1) (rest_valid f.0 (at + 1) s f.2)
@@ -83,10 +80,10 @@ no_rest : {r : Range} {rs : List Range} → Rest (r ∷ rs) [] → ⊥
 no_rest {r = lo to hi} k = elim k [ ]
 
 -- what a refused octet rules out, and what one that is taken leaves
-refused : {rs : List Range} {b : ℕ} {s : List ℕ} → octet_step rs b ≡ never → Rest rs (b ∷ s) → ⊥
-refused e k = not_wants (sym e ∙ takes (rest_on k).1)
+refused : {rs : List Range} {b : ℕ} {s : List ℕ} → octet_step rs b ≡ None → Rest rs (b ∷ s) → ⊥
+refused e k = let f = takes (rest_on k).1 in cc
 
-left : {rs qs : List Range} {b : ℕ} {s : List ℕ} → octet_step rs b ≡ wants qs → Rest rs (b ∷ s) → Rest qs s
+left : {rs qs : List Range} {b : ℕ} {s : List ℕ} → octet_step rs b ≡ Some qs → Rest rs (b ∷ s) → Rest qs s
 left {qs} e k = let f = rest_on k in let q : f.0 ≡ qs = cc (takes f.1) in rw q at f.2
 
 -- the text ends, the octet cannot stand here, or the place is after it
@@ -94,11 +91,11 @@ stops_end : {r : Range} {rs : List Range} → Nonempty (r ∷ rs) → Stops (r �
 stops_end h =
     record { inside = omega arith; invalid = no_rest; before = completed _ h; up_to = λ l. absurd (omega arith) }
 
-stops_here : {rs : List Range} {b : ℕ} {s : List ℕ} → Nonempty rs → octet_step rs b ≡ never → Stops rs (b ∷ s) 0
+stops_here : {rs : List Range} {b : ℕ} {s : List ℕ} → Nonempty rs → octet_step rs b ≡ None → Stops rs (b ∷ s) 0
 stops_here h e =
     record { inside = omega arith; invalid = refused e; before = completed _ h; up_to = λ l m. refused e m.1 }
 
-stops_later : {rs qs : List Range} {b k : ℕ} {s : List ℕ} → octet_step rs b ≡ wants qs → Stops qs s k
+stops_later : {rs qs : List Range} {b k : ℕ} {s : List ℕ} → octet_step rs b ≡ Some qs → Stops qs s k
     → Stops rs (b ∷ s) (suc k)
 stops_later e t = record {
   inside = omega arith;
@@ -111,20 +108,24 @@ stops_later e t = record {
 abbrev StopsAt : ℕ → List Range → ℕ → List ℕ → Type 0
 StopsAt n rs at s = (k : ℕ) × (n ≡ at + k) × Stops rs s k
 
-bad_stops : (rs : List Range) (at : ℕ) (s : List ℕ) (n : ℕ) → Nonempty rs → check_from rs at s ≡ BadAt n
+same_place : {m n : ℕ} → bad_at m ≡ bad_at n → m ≡ n
+same_place {m} {n} e =
+    let q : ◌≡◌ {A = BadAt} (record { place = m }) (record { place = n }) = cc in ap (λ (b : BadAt). b.place) q
+
+bad_stops : (rs : List Range) (at : ℕ) (s : List ℕ) (n : ℕ) → Nonempty rs → check_from rs at s ≡ bad_at n
     → StopsAt n rs at s
 unfolding check_from at_end
-bad_stops [] at [] n h e = not_valid (sym e)
-bad_stops (r ∷ rs) at [] n h e = let q : at ≡ n = cc in (0, omega arith, stops_end h)
+bad_stops [] at [] n h e = cc
+bad_stops (r ∷ rs) at [] n h e = let q : at ≡ n = same_place e in (0, omega arith, stops_end h)
 bad_stops rs at (b ∷ s) n h e = go (octet_step rs b) refl (λ qs. bad_stops qs (at + 1) s n) e
   where
-    go : (a : After) → octet_step rs b ≡ a
-        → ((qs : List Range) → Nonempty qs → check_from qs (at + 1) s ≡ BadAt n → StopsAt n qs (at + 1) s)
-        → onward a (λ qs. check_from qs (at + 1) s) (BadAt at) ≡ BadAt n
+    go : (a : Option (List Range)) → octet_step rs b ≡ a
+        → ((qs : List Range) → Nonempty qs → check_from qs (at + 1) s ≡ bad_at n → StopsAt n qs (at + 1) s)
+        → onward a (λ qs. check_from qs (at + 1) s) (bad_at at) ≡ bad_at n
         → StopsAt n rs at (b ∷ s)
-    go (wants qs) g later f =
+    go (Some qs) g later f =
         let t = later qs (step_nonempty h (taken g)) f in (suc t.0, omega (arith, t.1), stops_later g t.2)
-    go never g later f = let q : at ≡ n = cc in (0, omega arith, stops_here h g)
+    go None g later f = let q : at ≡ n = same_place f in (0, omega arith, stops_here h g)
 
 first_bad : {s : List ℕ} {n : ℕ} → Stops [] s n → FirstBad s n
 first_bad t = record {
@@ -142,7 +143,7 @@ not_before : {s : List ℕ} {m n : ℕ} → FirstBad s m → FirstBad s n → m 
 not_before {s} {m} {n} f g h =
     f.up_to (omega arith) (rw (take-take (m + 1) n s (omega arith)) at (start_continues (m + 1) (take n s) g.before))
 
-bad_first : (s : List ℕ) (n : ℕ) → check s ≡ BadAt n → FirstBad s n
+bad_first : (s : List ℕ) (n : ℕ) → check s ≡ bad_at n → FirstBad s n
 unfolding check
 bad_first s n e =
     let t = bad_stops [] 0 s n tt e in let q : t.0 ≡ n = omega (arith, t.1) in first_bad (rw q at t.2)
@@ -150,9 +151,9 @@ bad_first s n e =
 pub bad_exactly : BadExactly
 bad_exactly s n = (bad_first s n, λ f. place f (check s) refl)
   where
-    place : FirstBad s n → (a : Utf8) → check s ≡ a → check s ≡ BadAt n
-    place f Valid e = absurd (f.invalid ((valid_exactly s).0 e))
-    place f (BadAt m) e =
-        let g = bad_first s m e in
-        let q : m ≡ n = omega (arith, not_before f g, not_before g f) in
-        e ∙ ap BadAt q
+    place : FirstBad s n → (a : Validity) → check s ≡ a → check s ≡ bad_at n
+    place f (Ok u) e = absurd (f.invalid ((valid_exactly s).0 e))
+    place f (Err b) e =
+        let g = bad_first s b.place e in
+        let q : b.place ≡ n = omega (arith, not_before f g, not_before g f) in
+        e ∙ ap bad_at q

@@ -1,7 +1,6 @@
 -- The check, octet by octet: at each place, the ranges of the octets that the character begun there still wants.
-use Rattle.std.specs.Prelude.{ℕ, ◌+◌, List, [], ◌∷◌, Bool, false, cond, leb}
-use Rattle.utf8.specs.declared.Utf8.{Utf8}
-use Rattle.utf8.specs.declared.Utf8.TheVariants.{Valid, BadAt}
+use Rattle.std.specs.Prelude.{ℕ, ◌+◌, List, [], ◌∷◌, Bool, false, cond, leb, Option, Some, None, Result, Ok, Err}
+use Rattle.utf8.specs.declared.BadAt.{BadAt}
 
 infix 40 ◌to◌
 infix 30 ◌then◌
@@ -34,35 +33,42 @@ utf8_char =
 unfoldable pub in_range : Range → ℕ → Bool
 in_range (lo to hi) b = cond (leb lo b) (leb b hi) false
 
--- after an octet: the ranges that its character still wants, or that the octet cannot stand there
-pub data After : Type 0 where
-  wants : List Range → After
-  never : After
+-- an octet that starts a character: what the first row that has it wants after it; none, where no row has it
+unfoldable pub octet_start : List OctetRow → ℕ → Option (List Range)
+octet_start [] b = None
+octet_start ((r then rs) ∷ rows) b = cond (in_range r b) (Some rs) (octet_start rows b)
 
--- an octet that starts a character: the first row that has it
-unfoldable pub octet_start : List OctetRow → ℕ → After
-octet_start [] b = never
-octet_start ((r then rs) ∷ rows) b = cond (in_range r b) (wants rs) (octet_start rows b)
-
--- an octet where the ranges are wanted; with none wanted, it starts a character
-unfoldable pub octet_step : List Range → ℕ → After
+-- an octet where the ranges are wanted: those that its character still wants; none, where the octet cannot stand there.
+-- With no range wanted, it starts a character.
+unfoldable pub octet_step : List Range → ℕ → Option (List Range)
 octet_step [] b = octet_start utf8_char b
-octet_step (r ∷ rs) b = cond (in_range r b) (wants rs) never
+octet_step (r ∷ rs) b = cond (in_range r b) (Some rs) None
+
+-- what a check comes to
+abbrev pub Validity : Type 0
+Validity = Result (Unit {0}) BadAt
+
+abbrev pub valid : Validity
+valid = Ok tt
+
+-- bad at the place n
+abbrev pub bad_at : ℕ → Validity
+bad_at n = Err (record { place = n })
 
 -- the text ends
-unfoldable pub at_end : List Range → ℕ → Utf8
-at_end [] at = Valid
-at_end (r ∷ rs) at = BadAt at
+unfoldable pub at_end : List Range → ℕ → Validity
+at_end [] at = valid
+at_end (r ∷ rs) at = bad_at at
 
-abbrev pub onward : After → (List Range → Utf8) → Utf8 → Utf8
-onward (wants rs) f bad = f rs
-onward never f bad = bad
+abbrev pub onward : Option (List Range) → (List Range → Validity) → Validity → Validity
+onward (Some rs) f bad = f rs
+onward None f bad = bad
 
 -- the octets from the place at on, where the ranges rs are wanted
-unfoldable pub check_from : List Range → ℕ → List ℕ → Utf8
+unfoldable pub check_from : List Range → ℕ → List ℕ → Validity
 check_from rs at [] = at_end rs at
-check_from rs at (b ∷ bytes) = onward (octet_step rs b) (λ next. check_from next (at + 1) bytes) (BadAt at)
+check_from rs at (b ∷ bytes) = onward (octet_step rs b) (λ next. check_from next (at + 1) bytes) (bad_at at)
 
 -- valid, or the place of the first octet that cannot continue valid text (the length where the text ends inside a character)
-unfoldable pub check : List ℕ → Utf8
+unfoldable pub check : List ℕ → Validity
 check bytes = check_from [] 0 bytes

@@ -1,8 +1,7 @@
 -- What the check's answers mean, in the terms of the ABNF alone. The proofs are in proofs/Meaning.antt.
 use Rattle.std.specs.Prelude.{ℕ, ◌+◌, ◌≤◌, ◌<◌, ◌≡◌, List, ◌++◌, length, take}
-use Rattle.utf8.specs.declared.Utf8.TheVariants.{Valid, BadAt}
 use Rattle.utf8.specs.Rfc3629.{Utf8Octets}
-use Rattle.utf8.specs.Check.{check}
+use Rattle.utf8.specs.Check.{valid, bad_at, check}
 
 -- some octets after these make valid text of them
 abbrev pub Continues : List ℕ → Type 0
@@ -17,8 +16,8 @@ pub record FirstBad (s : List ℕ) (n : ℕ) : Type 0 where
 
 -- valid exactly for a UTF8-octets
 abbrev pub ValidExactly : Type 0
-ValidExactly = (s : List ℕ) → (check s ≡ Valid → Utf8Octets s) × (Utf8Octets s → check s ≡ Valid)
+ValidExactly = (s : List ℕ) → (check s ≡ valid → Utf8Octets s) × (Utf8Octets s → check s ≡ valid)
 
 -- bad at n exactly where n is that place
 abbrev pub BadExactly : Type 0
-BadExactly = (s : List ℕ) (n : ℕ) → (check s ≡ BadAt n → FirstBad s n) × (FirstBad s n → check s ≡ BadAt n)
+BadExactly = (s : List ℕ) (n : ℕ) → (check s ≡ bad_at n → FirstBad s n) × (FirstBad s n → check s ≡ bad_at n)

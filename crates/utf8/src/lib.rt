@@ -1,15 +1,15 @@
 // Whether bytes are UTF-8 (RFC 3629), and where they stop being it.
 #![tactic(auto)]
 
-ghost use Rattle.std.specs.Prelude.{◌≡◌, ◌≤◌};
+ghost use Rattle.std.specs.Prelude.{◌≡◌};
+ghost use Rattle.std.specs.Option.{option_map};
 ghost use Rattle.utf8.specs.Check.{utf8_char, octet_start, octet_step, at_end, check};
-ghost use Rattle.utf8.specs.State.{tails, wanted, after_of, ascii_length};
+ghost use Rattle.utf8.specs.State.{tails, wanted, ascii_length};
 
-#[derive(Clone, Copy)]
-pub enum Utf8 {
-    Valid,
-    // The place of the first byte that cannot continue valid text; the length where the text ends inside a character.
-    BadAt(usize),
+// The place of the first byte that cannot continue valid text; the length where the text ends inside a character.
+#[derive(Clone, Copy, Debug, PartialEq, Eq)]
+pub struct BadAt {
+    pub place: usize,
 }
 
 // What a character that was begun still wants: how many bytes, and the range of the next one. Those after it are tails.
@@ -18,12 +18,6 @@ struct Want {
     left: u8,
     low: u8,
     high: u8,
-}
-
-#[derive(Clone, Copy)]
-enum Next {
-    Go(Want),
-    Stop,
 }
 
 // So many tails.
@@ -37,126 +31,89 @@ fn tails(left: u8) -> Want
     }
 }
 
-// The first byte of a character of three bytes.
-fn start3(b: u8) -> Want
-    requires { (0xE0 ≤ b) × (b ≤ 0xEF) }
-    ensures { after_of (Next.Go result) ≡ octet_start utf8_char b }
+// The first byte of a character, by the character's length, as the RFC has it. One match of its nine rows takes an eighth
+// longer on texts of two or three bytes a character.
+#[tactic(auto, unfolding(crate::specs::Check::octet_start, crate::specs::Check::utf8_char, crate::specs::Check::in_range, crate::specs::State::wanted))]
+fn octet_start(b: u8) -> Option<Want>
+    ensures { option_map wanted result ≡ octet_start utf8_char b }
 {
-    if b == 0xe0 {
-        return Want {
-            left: 2,
-            low: 0xa0,
-            high: 0xbf,
-        };
+    match b {
+        0x00..=0x7f => Some(tails(0)),
+        0xc2..=0xdf => Some(tails(1)),
+        0xe0..=0xef => match b {
+            0xe0 => Some(Want {
+                left: 2,
+                low: 0xa0,
+                high: 0xbf,
+            }),
+            0xed => Some(Want {
+                left: 2,
+                low: 0x80,
+                high: 0x9f,
+            }),
+            _ => Some(tails(2)),
+        },
+        0xf0..=0xf4 => match b {
+            0xf0 => Some(Want {
+                left: 3,
+                low: 0x90,
+                high: 0xbf,
+            }),
+            0xf4 => Some(Want {
+                left: 3,
+                low: 0x80,
+                high: 0x8f,
+            }),
+            _ => Some(tails(3)),
+        },
+        _ => None,
     }
-    if b == 0xed {
-        return Want {
-            left: 2,
-            low: 0x80,
-            high: 0x9f,
-        };
-    }
-    tails(2)
-}
-
-// The first byte of a character of four bytes, or a byte above all of those.
-fn start4(b: u8) -> Next
-    requires { 0xF0 ≤ b }
-    ensures { after_of result ≡ octet_start utf8_char b }
-{
-    if b == 0xf0 {
-        return Next::Go(Want {
-            left: 3,
-            low: 0x90,
-            high: 0xbf,
-        });
-    }
-    if b < 0xf4 {
-        return Next::Go(tails(3));
-    }
-    if b == 0xf4 {
-        return Next::Go(Want {
-            left: 3,
-            low: 0x80,
-            high: 0x8f,
-        });
-    }
-    Next::Stop
-}
-
-// The first byte of a character.
-fn octet_start(b: u8) -> Next
-    ensures { after_of result ≡ octet_start utf8_char b }
-{
-    if b < 0x80 {
-        return Next::Go(tails(0));
-    }
-    if b < 0xc2 {
-        return Next::Stop;
-    }
-    if b < 0xe0 {
-        return Next::Go(tails(1));
-    }
-    if b < 0xf0 {
-        return Next::Go(start3(b));
-    }
-    start4(b)
 }
 
 // One byte more.
-fn octet_step(w: Want, b: u8) -> Next
-    ensures { after_of result ≡ octet_step (wanted w) b }
+#[tactic(auto, unfolding(crate::specs::Check::octet_step, crate::specs::Check::in_range, crate::specs::State::wanted))]
+fn octet_step(w: Want, b: u8) -> Option<Want>
+    ensures { option_map wanted result ≡ octet_step (wanted w) b }
 {
-    if w.left == 0 {
-        return octet_start(b);
+    match w.left {
+        0 => octet_start(b),
+        left if (w.low..=w.high).contains(&b) => Some(tails(left - 1)),
+        _ => None,
     }
-    if b < w.low {
-        return Next::Stop;
-    }
-    if w.high < b {
-        return Next::Stop;
-    }
-    Next::Go(tails(w.left - 1))
 }
 
-fn at_end(w: Want, at: usize) -> Utf8
+#[tactic(auto, unfolding(crate::specs::Check::at_end, crate::specs::State::wanted))]
+fn at_end(w: Want, at: usize) -> Result<(), BadAt>
     ensures { result ≡ at_end (wanted w) at }
 {
     if w.left == 0 {
-        return Utf8::Valid;
+        Ok(())
+    } else {
+        Err(BadAt { place: at })
     }
-    Utf8::BadAt(at)
 }
 
-// How many bytes at the start are characters of one byte. Most texts have no other.
+// How many bytes at the start are characters of one byte. Most texts have no other. By their places: what `take_while` keeps is a
+// reference, and its size is no size for all processors.
+#[tactic(auto, using(crate::proofs::Laws::ascii_steps))]
 fn ascii_length(s: &[u8]) -> usize
     ensures { result ≡ ascii_length s.now }
 {
-    let mut i = 0;
-    while i < s.len() {
-        if 0x80 <= s[i] {
+    for i in 0..s.len() {
+        if s[i] >= 0x80 {
             return i;
         }
-        i += 1;
     }
-    i
+    s.len()
 }
 
-pub fn check(s: &[u8]) -> Utf8
+#[tactic(auto, using(crate::proofs::Laws::check_steps), unfolding(crate::specs::State::wanted))]
+pub fn check(s: &[u8]) -> Result<(), BadAt>
     ensures { result ≡ check s.now }
 {
     let mut w = tails(0);
-    let mut i = ascii_length(s);
-    while i < s.len() {
-        match octet_step(w, s[i]) {
-            Next::Go(n) => {
-                w = n;
-            }
-            Next::Stop => {
-                return Utf8::BadAt(i);
-            }
-        }
-        i += 1;
+    for i in ascii_length(s)..s.len() {
+        w = octet_step(w, s[i]).ok_or(BadAt { place: i })?;
     }
-    at_end(w, i)
+    at_end(w, s.len())
 }

@@ -1,129 +1,111 @@
 // Runs the check on each case of the input and on every text of four families, and writes what it answers.
 #![tactic(auto)]
 
-use cases::output::{decimal, hex, long, size, text};
+ghost use Rattle.std.specs.Prelude.{◌<◌, ◌≤◌, length};
+
+use cases::input::read_start;
+use cases::output::Hex;
+use std::{fmt, io};
+
+// The bytes at which a rule of UTF-8 begins or ends.
+const EDGES: &[u8; 24] =
+    b"\x00\x7f\x80\x8f\x90\x9f\xa0\xbf\xc0\xc1\xc2\xdf\xe0\xe1\xec\xed\xee\xef\xf0\xf1\xf3\xf4\xf5\xff";
+
+// So many bytes of the input are read.
+const INPUT_BYTES: usize = 4096;
 
 // How many texts a family has, how many of them are valid, and the sum of the places of the others.
-#[derive(Drop)]
+#[derive(Default, Drop)]
 struct Tally {
     texts: u64,
     valid: u64,
     places: u64,
 }
 
-fn wide(b: u8) -> usize {
-    b as usize
-}
-
-fn show_answer(r: utf8::Utf8) {
-    match r {
-        utf8::Utf8::Valid => {
-            text(b" valid\n");
-        }
-        utf8::Utf8::BadAt(n) => {
-            text(b" bad at ");
-            size(n);
-            text(b"\n");
+impl Tally {
+    // One text more, which is bad at a place or nowhere.
+    fn count(&mut self, bad: Option<usize>) {
+        self.texts = self.texts.wrapping_add(1);
+        match bad {
+            None => self.valid = self.valid.wrapping_add(1),
+            Some(at) => self.places = self.places.wrapping_add(at as u64),
         }
     }
 }
 
-// A case's line.
-fn show_case(s: &[u8]) {
-    hex(s);
-    show_answer(utf8::check(s));
-}
-
-// The lines of the cases: in s stands, for each, its length as a byte, and its bytes.
-fn show_cases(s: &[u8]) {
-    let mut at = 0;
-    while at < s.len() {
-        let start = at + 1;
-        let n = wide(s[at]);
-        if s.len() - start < n {
-            return;
-        }
-        let end = start + n;
-        show_case(&s[start..end]);
-        at = end;
+impl fmt::Display for Tally {
+    fn fmt<W: fmt::Write>(&self, f: &mut fmt::Formatter<W>) -> fmt::Result {
+        let Tally {
+            texts,
+            valid,
+            places,
+        } = self;
+        write!(f, "{texts} texts, {valid} valid, places sum to {places}")
     }
 }
 
-// A byte, each in its turn.
-fn byte(n: u32) -> u8 {
-    (n % 256) as u8
+// The place at which a text stops being UTF-8, if there is one.
+fn bad_place(text: &[u8]) -> Option<usize> {
+    utf8::check(text).err().map(|bad| bad.place)
 }
 
-// The bytes at which a rule of UTF-8 begins or ends, each in its turn.
-fn edge(n: u32) -> u8 {
-    let edges =
-        b"\x00\x7f\x80\x8f\x90\x9f\xa0\xbf\xc0\xc1\xc2\xdf\xe0\xe1\xec\xed\xee\xef\xf0\xf1\xf3\xf4\xf5\xff";
-    edges[(n % 24) as usize]
-}
-
-// The answer for text n of a family: all texts of length 1 and of length 2, those of edges of length 3 and of length 4.
-fn answer(length: u8, n: u32) -> utf8::Utf8 {
-    if length == 1 {
-        return utf8::check(&[byte(n)]);
-    }
-    if length == 2 {
-        return utf8::check(&[byte(n / 256), byte(n)]);
-    }
-    if length == 3 {
-        return utf8::check(&[edge(n / 576), edge(n / 24), edge(n)]);
-    }
-    utf8::check(&[edge(n / 13824), edge(n / 576), edge(n / 24), edge(n)])
-}
-
-fn counted(t: Tally, r: utf8::Utf8) -> Tally {
-    let texts = std::num::wrapping_add_u64(t.texts, 1);
-    match r {
-        utf8::Utf8::Valid => Tally {
-            texts: texts,
-            valid: std::num::wrapping_add_u64(t.valid, 1),
-            places: t.places,
-        },
-        utf8::Utf8::BadAt(at) => Tally {
-            texts: texts,
-            valid: t.valid,
-            places: std::num::wrapping_add_u64(t.places, at as u64),
-        },
+fn show_case(rt: &impl Print, text: &[u8]) -> io::Result<()> {
+    let bytes = Hex(text);
+    match bad_place(text) {
+        None => println!(rt; "{bytes} valid"),
+        Some(at) => println!(rt; "{bytes} bad at {at}"),
     }
 }
 
-// The first `total` texts of a family.
-fn tallied(length: u8, total: u32) -> Tally {
-    let mut t = Tally {
-        texts: 0,
-        valid: 0,
-        places: 0,
-    };
-    let mut n: u32 = 0;
-    while n < total {
-        t = counted(t, answer(length, n));
-        n += 1;
+// The cases of the input: for each, its length as a byte, and its bytes.
+fn show_cases(rt: &impl Print, input: &[u8]) -> io::Result<()> {
+    let mut rest = input;
+    while let Some((size, after)) = rest.split_first() {
+        let Some((text, next)) = after.split_at_checked(usize::from(*size)) else {
+            return Ok(());
+        };
+        show_case(rt, text)?;
+        rest = next;
     }
-    t
+    Ok(())
 }
 
-fn show_tally(length: u8, t: Tally) {
-    text(b"length ");
-    decimal(length as u32);
-    text(b": ");
-    long(t.texts);
-    text(b" texts, ");
-    long(t.valid);
-    text(b" valid, places sum to ");
-    long(t.places);
-    text(b"\n");
+// Text n of a family: the digits of n, where these bytes stand for digits. No family has longer texts than of four bytes.
+fn text_at<const LENGTH: usize>(digits: &[u8], n: usize) -> [u8; LENGTH]
+    requires { (0 < length digits.now) × (LENGTH ≤ 4) }
+{
+    let mut text = [0; LENGTH];
+    let mut left = n;
+    for byte in text.iter_mut().rev() {
+        *byte = digits[left % digits.len()];
+        left /= digits.len();
+    }
+    text
 }
 
-fn main() {
-    let mut buf = io::buffer();
-    let n = io::read_full(0, &mut buf);
-    show_cases(&buf[..n]);
-    show_tally(1, tallied(1, 256));
-    show_tally(2, tallied(2, 65536));
-    show_tally(3, tallied(3, 13824));
-    show_tally(4, tallied(4, 331776));
+// So many texts of one length, of these bytes.
+fn show_family<const LENGTH: usize>(rt: &impl Print, digits: &[u8], texts: usize) -> io::Result<()>
+    requires { (0 < length digits.now) × (LENGTH ≤ 4) }
+{
+    let mut tally = Tally::default();
+    for n in 0..texts {
+        let text: [u8; LENGTH] = text_at(digits, n);
+        tally.count(bad_place(&text));
+    }
+    println!(rt; "length {LENGTH}: {tally}")
+}
+
+// All texts of length 1 and of length 2, those of edges of length 3 and of length 4.
+fn show_families(rt: &impl Print) -> io::Result<()> {
+    let bytes: [u8; 256] = std::array::from_fn(|n| (n % 256) as u8);
+    show_family::<1>(rt, &bytes, 256)?;
+    show_family::<2>(rt, &bytes, 256 * 256)?;
+    show_family::<3>(rt, EDGES, 24 * 24 * 24)?;
+    show_family::<4>(rt, EDGES, 24 * 24 * 24 * 24)
+}
+
+fn main(rt: HostRuntime) -> io::Result<()> {
+    let input = read_start(rt.reader(), INPUT_BYTES, rt.alloc())?;
+    show_cases(&rt, &input)?;
+    show_families(&rt)
 }

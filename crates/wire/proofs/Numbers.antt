@@ -2,10 +2,11 @@
 use Prim.Native.Nat.{ℕ, suc, ◌+◌, ◌*◌, ◌^◌, ◌≤◌, ◌<◌}
 use mathlib.Core.Path.{◌≡◌}
 use mathlib.Core.List.{List, [], ◌∷◌, ◌++◌}
-use native.Mathlib.Nat.{mul-le-mul_right, pow-succ'}
+use native.Mathlib.Nat.{mul-le-mul_right, pow-succ', pow-le-pow_right}
 use native.Mathlib.Omega.{arith}
-use lib.ListN.{length, get_or, take, drop, length-append}
-use lib.Seq.{take-add, drop-drop, drop-cons}
+use lib.ListN.{length, get_or, take, drop, length-append, length-take}
+use lib.Seq.{take-suc}
+use native.Mathlib.Numerals.{add-one}
 use lib.Pow.{pow-add}
 use Rattle.wire.specs.Wire.{big_endian}
 use Rattle.wire.proofs.Parts.{AreBytes, part_length, part_bytes}
@@ -24,17 +25,19 @@ big_endian_bound (x ∷ xs) b =
     let k : big_endian xs < 256 ^ length xs = big_endian_bound xs (λ i. b (suc i)) in
     omega (arith, mul-le-mul_right (256 ^ length xs) h, pow-succ' 256 (length xs))
 
--- the number of the one byte at a position is the byte
-pub part_one : (s : List ℕ) (at : ℕ) → at < length s → get_or s at 0 ≡ big_endian (take 1 (drop at s))
+-- the number of the first bytes and one more
+pub big_endian_more : (xs : List ℕ) (i : ℕ) → i < length xs →
+    big_endian (take i xs) * 256 + get_or xs i 0 ≡ big_endian (take (i + 1) xs)
 unfolding big_endian
-part_one s at h = rw (drop-cons s at 0 h) (omega arith)
+big_endian_more xs i h =
+    rw (add-one, take-suc xs i 0 h, big_endian_append (take i xs) (get_or xs i 0 ∷ [])) (omega arith)
 
--- the number of m + n bytes at a position, from that of the first m and that of the n after them
-pub part_join : (m n : ℕ) (s : List ℕ) (at : ℕ) → at + (m + n) ≤ length s →
-    {x y : ℕ} → x ≡ big_endian (take m (drop at s)) → y ≡ big_endian (take n (drop (at + m) s)) →
-    x * 256 ^ n + y ≡ big_endian (take (m + n) (drop at s))
-part_join m n s at h e f =
-    rw (take-add, drop-drop, big_endian_append, part_length s (at + m) n (omega arith), e, f)
+-- that of 8 bytes at most fits into 64 bits
+pub big_endian_fits : (xs : List ℕ) (i : ℕ) → AreBytes xs → i ≤ 8 → big_endian (take i xs) < 2 ^ 64
+big_endian_fits xs i b h =
+    let k = big_endian_bound (take i xs) (part_bytes xs 0 i b) in
+    let l : length (take i xs) ≤ 8 = rw length-take (omega arith) in
+    omega (arith, k, pow-le-pow_right {n = 256} (omega arith) l)
 
 -- the number of n bytes at a position is below 256 ^ n
 pub part_bound : (s : List ℕ) (at n : ℕ) → AreBytes s → at + n ≤ length s → big_endian (take n (drop at s)) < 256 ^ n

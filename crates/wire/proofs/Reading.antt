@@ -1,4 +1,5 @@
 -- Bytes that stand in a list from one position to another: how they join and part, and what reads say of them.
+use Rattle.std.specs.Prelude.{Some}
 use Prim.Native.Nat.{ℕ, ◌+◌, ◌≤◌}
 use mathlib.Core.Path.{◌≡◌, refl, sym, ap, ◌∙◌}
 use mathlib.Core.List.{List, [], ◌++◌, append_assoc, append-nil}
@@ -8,8 +9,6 @@ use lib.ListN.{length, take, drop, length-append, take-append-drop}
 use lib.Seq.{take-append_seam, drop-append_seam, drop-drop, take_all, drop-length}
 use Rattle.wire.specs.Wire.{big_endian, span_end, span, number_at, holds_at}
 use Rattle.wire.specs.Relations.{Number}
-use Rattle.wire.specs.declared.Num.TheVariants.{Value}
-use Rattle.wire.specs.declared.Pos.TheVariants.{At}
 use Rattle.wire.proofs.Parts.{part_length}
 use Rattle.wire.proofs.Spans.{end_in, end_at, span_in, span_length, number_in, number_value}
 use Rattle.wire.proofs.Bytes.{holds_exactly}
@@ -61,21 +60,21 @@ pub all_reads : {s b : List ℕ} → Reads s 0 (length s) b → b ≡ s
 all_reads {s} {b} r = sym (reads_part r) ∙ take_all (length b) s (omega arith)
 
 module _ (s : List ℕ) (at n : ℕ) where
-  pub span_reads : {e : ℕ} → span_end s at n ≡ At e → Reads s at e (span s at n) × (length (span s at n) ≡ n)
+  pub span_reads : {e : ℕ} → span_end s at n ≡ Some e → Reads s at e (span s at n) × (length (span s at n) ≡ n)
   span_reads {e} g = let (q, h) = end_at s at n refl g in
       (rw (q, ← span_in s at n h) (part_reads s at n h), span_length s at n h)
 
-  pub reads_span : {e : ℕ} {b : List ℕ} → Reads s at e b → length b ≡ n → (span_end s at n ≡ At e) × (span s at n ≡ b)
+  pub reads_span : {e : ℕ} {b : List ℕ} → Reads s at e b → length b ≡ n → (span_end s at n ≡ Some e) × (span s at n ≡ b)
   reads_span {e} {b} r l =
       let h : at + n ≤ length s = omega arith in
       let q : e ≡ at + n = omega arith in
-      (sym (end_in s at n h) ∙ ap At (sym q), sym (span_in s at n h) ∙ rw (← l) (reads_part r))
+      (sym (end_in s at n h) ∙ ap Some (sym q), sym (span_in s at n h) ∙ rw (← l) (reads_part r))
 
-  pub number_reads : {v : ℕ} → number_at n s at ≡ Value v → (b : List ℕ) × Reads s at (at + n) b × Number n v b
+  pub number_reads : {v : ℕ} → number_at n s at ≡ Some v → (b : List ℕ) × Reads s at (at + n) b × Number n v b
   number_reads g = let (h, q) = number_value s at n refl g in
       (take n (drop at s), part_reads s at n h, record { size = part_length s at n h; value = sym q })
 
-  pub reads_number : {e v : ℕ} {b : List ℕ} → Reads s at e b → Number n v b → (number_at n s at ≡ Value v) × (e ≡ at + n)
+  pub reads_number : {e v : ℕ} {b : List ℕ} → Reads s at e b → Number n v b → (number_at n s at ≡ Some v) × (e ≡ at + n)
   reads_number {e} {v} {b} r m =
       let l : length b ≡ n = m.size in
       let h : at + n ≤ length s = omega arith in (

@@ -1,4 +1,5 @@
 -- Laws of spans: what a read answers where there is room and where there is none, and what its answer tells.
+use Rattle.std.specs.Prelude.{Option, Some, None}
 use Prim.Native.Nat.{ℕ, ◌+◌, ◌-◌, ◌^◌, ◌≤◌, ◌<◌}
 use mathlib.Core.Path.{◌≡◌, refl, sym, ◌∙◌}
 use mathlib.Core.List.{List, []}
@@ -10,10 +11,6 @@ use lib.Dec.{leb}
 use lib.ListN.{length, take, drop}
 use lib.Seq.{drop-drop}
 use Rattle.wire.specs.Wire.{big_endian, inside, span_end, span, number_at}
-use Rattle.wire.specs.declared.Num.{Num}
-use Rattle.wire.specs.declared.Num.TheVariants.{Value, Short}
-use Rattle.wire.specs.declared.Pos.{Pos}
-use Rattle.wire.specs.declared.Pos.TheVariants.{At, Past}
 use Rattle.wire.proofs.Parts.{AreBytes, part_length, part_lent, part_front}
 use Rattle.wire.proofs.Numbers.{part_bound}
 
@@ -23,7 +20,7 @@ module _ (s : List ℕ) (start n : ℕ) where
   unfolding inside
   inside_in h = le-leb _ _ h
 
-  pub end_in : start + n ≤ length s → At (start + n) ≡ span_end s start n
+  pub end_in : start + n ≤ length s → Some (start + n) ≡ span_end s start n
   unfolding span_end
   end_in h = rw (inside_in h)
 
@@ -34,7 +31,7 @@ module _ (s : List ℕ) (start n : ℕ) where
   pub span_lent : start + n ≤ length s → take (start + n - start) (drop start s) ≡ span s start n
   span_lent h = part_lent s start n ∙ span_in h
 
-  pub number_in : start + n ≤ length s → {v : ℕ} → v ≡ big_endian (take n (drop start s)) → Value v ≡ number_at n s start
+  pub number_in : start + n ≤ length s → {v : ℕ} → v ≡ big_endian (take n (drop start s)) → Some v ≡ number_at n s start
   unfolding number_at
   number_in h e = rw (inside_in h, e)
 
@@ -43,7 +40,7 @@ module _ (s : List ℕ) (start n : ℕ) where
   unfolding inside
   inside_out h = lt-leb _ _ h
 
-  pub end_out : length s < start + n → Past ≡ span_end s start n
+  pub end_out : length s < start + n → None ≡ span_end s start n
   unfolding span_end
   end_out h = rw (inside_out h)
 
@@ -51,7 +48,7 @@ module _ (s : List ℕ) (start n : ℕ) where
   unfolding span
   span_out h = rw (inside_out h)
 
-  pub number_out : length s < start + n → Short ≡ number_at n s start
+  pub number_out : length s < start + n → None ≡ number_at n s start
   unfolding number_at
   number_out h = rw (inside_out h)
 
@@ -71,29 +68,29 @@ module _ (s : List ℕ) (start n : ℕ) where
   unfolding inside
   inside_false e h = leb-false _ _ (sym e ∙ h)
 
-  pub end_at : {p : Pos} {e : ℕ} → p ≡ span_end s start n → p ≡ At e → (e ≡ start + n) × (start + n ≤ length s)
+  pub end_at : {p : Option ℕ} {e : ℕ} → p ≡ span_end s start n → p ≡ Some e → (e ≡ start + n) × (start + n ≤ length s)
   end_at g h = elim (dec_le (start + n) (length s)) [
     | yes k ↦ let f = end_in k in (cc, k)
     | no k ↦ let f = end_out (omega (arith, k)) in let z : ◌≡◌ {A = ℕ} 0 1 = cc in omega arith
   ]
 
-  pub end_past : {p : Pos} → p ≡ span_end s start n → p ≡ Past → length s < start + n
+  pub end_past : {p : Option ℕ} → p ≡ span_end s start n → p ≡ None → length s < start + n
   end_past g h = elim (dec_le (start + n) (length s)) [
     | yes k ↦ let f = end_in k in let z : ◌≡◌ {A = ℕ} 0 1 = cc in omega arith
     | no k ↦ omega (arith, k)
   ]
 
-  pub number_value : {x : Num} {v : ℕ} → x ≡ number_at n s start → x ≡ Value v →
+  pub number_value : {x : Option ℕ} {v : ℕ} → x ≡ number_at n s start → x ≡ Some v →
       (start + n ≤ length s) × (v ≡ big_endian (take n (drop start s)))
   number_value g h = elim (dec_le (start + n) (length s)) [
     | yes k ↦ let f = number_in k refl in (k, cc)
     | no k ↦ let f = number_out (omega (arith, k)) in let z : ◌≡◌ {A = ℕ} 0 1 = cc in absurd (omega arith)
   ]
 
-  pub number_bound : AreBytes s → {x : Num} {v : ℕ} → x ≡ number_at n s start → x ≡ Value v → v < 256 ^ n
+  pub number_bound : AreBytes s → {x : Option ℕ} {v : ℕ} → x ≡ number_at n s start → x ≡ Some v → v < 256 ^ n
   number_bound b g h = let (k, e) = number_value g h in rw e (part_bound s start n b k)
 
-  pub number_short : {x : Num} → x ≡ number_at n s start → x ≡ Short → length s < start + n
+  pub number_short : {x : Option ℕ} → x ≡ number_at n s start → x ≡ None → length s < start + n
   number_short g h = elim (dec_le (start + n) (length s)) [
     | yes k ↦ let f = number_in k refl in let z : ◌≡◌ {A = ℕ} 0 1 = cc in omega arith
     | no k ↦ omega (arith, k)

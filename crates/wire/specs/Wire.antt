@@ -1,12 +1,8 @@
 -- Big-endian numbers, spans and byte strings in a list of bytes. Positions and lengths are whole numbers: no sum wraps.
-use Rattle.std.specs.Prelude.{ℕ, ◌+◌, ◌*◌, ◌^◌, List, [], ◌∷◌, Bool, false, cond, length, take, drop, leb}
+use Rattle.std.specs.Prelude.{ℕ, ◌+◌, ◌*◌, ◌^◌, List, [], ◌∷◌, Bool, false, cond, length, take, drop, leb, unwrap_or, Option, Some, None}
 use Prim.Native.Char.{code}
 use Prim.Native.String.{String}
 use Rattle.lists.specs.Lists.{same_bytes}
-use Rattle.wire.specs.declared.Num.{Num}
-use Rattle.wire.specs.declared.Num.TheVariants.{Value, Short}
-use Rattle.wire.specs.declared.Pos.{Pos}
-use Rattle.wire.specs.declared.Pos.TheVariants.{At, Past}
 
 -- the number that bytes stand for, the first byte the highest
 unfoldable pub big_endian : List ℕ → ℕ
@@ -18,37 +14,26 @@ unfoldable pub inside : List ℕ → ℕ → ℕ → Bool
 inside s start n = leb (start + n) (length s)
 
 -- where the span of n bytes from start on ends
-unfoldable pub span_end : List ℕ → ℕ → ℕ → Pos
-span_end s start n = cond (inside s start n) (At (start + n)) Past
+unfoldable pub span_end : List ℕ → ℕ → ℕ → Option ℕ
+span_end s start n = cond (inside s start n) (Some (start + n)) None
 
 -- the bytes of the span, or none where it passes the end
 unfoldable pub span : List ℕ → ℕ → ℕ → List ℕ
 span s start n = cond (inside s start n) (take n (drop start s)) []
 
 -- the number of n bytes at a position
-unfoldable pub number_at : ℕ → List ℕ → ℕ → Num
-number_at n s at = cond (inside s at n) (Value (big_endian (take n (drop at s)))) Short
+unfoldable pub number_at : ℕ → List ℕ → ℕ → Option ℕ
+number_at n s at = cond (inside s at n) (Some (big_endian (take n (drop at s)))) None
 
 -- the byte string t stands in s from a position on
 unfoldable pub holds_at : List ℕ → ℕ → List ℕ → Bool
 holds_at s at t = cond (inside s at (length t)) (same_bytes (take (length t) (drop at s)) t) false
 
 -- the number that was read; 0 where there was none
-abbrev pub or_zero : Num → ℕ
-or_zero (Value v) = v
-or_zero Short = 0
+abbrev pub or_zero : Option ℕ → ℕ
+or_zero x = unwrap_or x 0
 
 -- the bytes of a text of the source
 abbrev pub ascii : String → List ℕ
 ascii String.[] = []
 ascii (String.◌∷◌ c cs) = code c ∷ ascii cs
-
--- what comes of a position, and what where there is none
-abbrev pub on_pos : {A : Type 0} → Pos → (ℕ → A) → A → A
-on_pos (At p) f none = f p
-on_pos Past f none = none
-
--- what comes of a number that was read, and what where there is none
-abbrev pub on_number : {A : Type 0} → Num → (ℕ → A) → A → A
-on_number (Value v) f none = f v
-on_number Short f none = none

@@ -1,40 +1,16 @@
-// Reads in a slice of bytes: big-endian numbers, spans, fixed strings. What passes the end is an answer.
+// Reads in a slice of bytes: big-endian numbers, spans, fixed strings. What passes the end is an answer. A slice and a position in it
+// stay two parameters, here and in the crates that read by this one: an answer is a position in the same slice, and a struct of both
+// would hand the slice back with it.
 #![tactic(auto)]
 
-ghost use Rattle.std.specs.Prelude.{◌≡◌, ◌+◌, ◌^◌, ◌≤◌, ◌<◌, length, take, drop};
-ghost use Rattle.wire.specs.Wire.{big_endian, inside, span_end, span, number_at, holds_at, or_zero};
-
-// A number that was read, or that the slice ends before its last byte.
-#[derive(Clone, Copy)]
-pub enum Num {
-    Value(u64),
-    Short,
-}
-
-// A position in the slice, or that it lies past the end.
-#[derive(Clone, Copy)]
-pub enum Pos {
-    At(usize),
-    Past,
-}
+ghost use Rattle.std.specs.Prelude.{◌≡◌, ◌+◌, ◌≤◌, length, IfSome, OnSome};
+ghost use Rattle.wire.specs.Wire.{big_endian, inside, span_end, span, number_at, holds_at};
 
 // A part of a slice: where it starts, and how many bytes it has.
-#[derive(Clone, Copy)]
+#[derive(Clone, Copy, Debug, PartialEq, Eq)]
 pub struct Part {
     pub start: usize,
     pub size: usize,
-}
-
-impl Num {
-    // The number, or 0 where there was none.
-    pub fn or_zero(self) -> u64
-        ensures { result ≡ or_zero self }
-    {
-        match self {
-            Num::Value(v) => v,
-            Num::Short => 0,
-        }
-    }
 }
 
 impl Part {
@@ -46,53 +22,34 @@ impl Part {
     }
 }
 
-fn one(s: &[u8], at: usize) -> u64
-    requires { at + 1 ≤ length s.now }
-    ensures { (result ≡ big_endian (take 1 (drop at s.now))) × (result < 2 ^ 8) }
+// The number that bytes stand for, the first byte the highest.
+fn big_endian(bytes: &[u8]) -> u64
+    requires { length bytes.now ≤ 8 }
+    ensures { result ≡ big_endian bytes.now }
 {
-    s[at] as u64
-}
-
-fn two(s: &[u8], at: usize) -> u64
-    requires { at + 2 ≤ length s.now }
-    ensures { (result ≡ big_endian (take 2 (drop at s.now))) × (result < 2 ^ 16) }
-{
-    one(s, at) * 0x100 + one(s, at + 1)
-}
-
-fn four(s: &[u8], at: usize) -> u64
-    requires { at + 4 ≤ length s.now }
-    ensures { (result ≡ big_endian (take 4 (drop at s.now))) × (result < 2 ^ 32) }
-{
-    two(s, at) * 0x1_0000 + two(s, at + 2)
-}
-
-fn eight(s: &[u8], at: usize) -> u64
-    requires { at + 8 ≤ length s.now }
-    ensures { result ≡ big_endian (take 8 (drop at s.now)) }
-{
-    four(s, at) * 0x1_0000_0000 + four(s, at + 4)
+    let mut n: u64 = 0;
+    for b in bytes {
+        n = n * 256 + *b as u64;
+    }
+    n
 }
 
 // Whether all of the n bytes from start on are in s.
 pub fn inside(s: &[u8], start: usize, n: usize) -> bool
     ensures { result ≡ inside s.now start n }
 {
-    let len = s.len();
-    if len < start {
-        return false;
-    }
-    n <= len - start
+    start <= s.len() && n <= s.len() - start
 }
 
-// Where the span of n bytes from start on ends.
-pub fn span_end(s: &[u8], start: usize, n: usize) -> Pos
-    ensures { result ≡ span_end s.now start n }
+// Where the span of n bytes from start on ends, if it does not pass the end of s.
+pub fn span_end(s: &[u8], start: usize, n: usize) -> Option<usize>
+    ensures place { result ≡ span_end s.now start n }
+    ensures within { IfSome result (λ end. (end ≡ start + n) × (end ≤ length s.now)) }
 {
     if inside(s, start, n) {
-        return Pos::At(start + n);
+        return Some(start + n);
     }
-    Pos::Past
+    None
 }
 
 // The n bytes from start on, or the empty part where they pass the end.
@@ -106,51 +63,22 @@ pub fn span(s: &[u8], start: usize, n: usize) -> &[u8]
     &s[..0]
 }
 
-// The number of one, two, four or eight bytes at a position, the first byte the highest.
-pub fn u8_at(s: &[u8], at: usize) -> Num
-    ensures { result ≡ number_at 1 s.now at }
+// The number of N bytes at a position, the first byte the highest.
+pub fn number_at<const N: usize>(s: &[u8], at: usize) -> Option<u64>
+    requires { N ≤ 8 }
+    ensures value { result ≡ number_at N s.now at }
+    ensures within { OnSome result (at + N ≤ length s.now) }
 {
-    if inside(s, at, 1) {
-        return Num::Value(one(s, at));
-    }
-    Num::Short
-}
-
-pub fn u16_at(s: &[u8], at: usize) -> Num
-    ensures { result ≡ number_at 2 s.now at }
-{
-    if inside(s, at, 2) {
-        return Num::Value(two(s, at));
-    }
-    Num::Short
-}
-
-pub fn u32_at(s: &[u8], at: usize) -> Num
-    ensures { result ≡ number_at 4 s.now at }
-{
-    if inside(s, at, 4) {
-        return Num::Value(four(s, at));
-    }
-    Num::Short
-}
-
-pub fn u64_at(s: &[u8], at: usize) -> Num
-    ensures { result ≡ number_at 8 s.now at }
-{
-    if inside(s, at, 8) {
-        return Num::Value(eight(s, at));
-    }
-    Num::Short
+    let end = span_end(s, at, N)?;
+    Some(big_endian(&s[at..end]))
 }
 
 // Whether the byte string t stands in s from at on.
 pub fn holds_at(s: &[u8], at: usize, t: &[u8]) -> bool
     ensures { result ≡ holds_at s.now at t.now }
 {
-    let n = t.len();
-    if inside(s, at, n) {
-        let end = at + n;
-        return lists::same_bytes(&s[at..end], t);
+    match span_end(s, at, t.len()) {
+        Some(end) => lists::same_bytes(&s[at..end], t),
+        None => false,
     }
-    false
 }

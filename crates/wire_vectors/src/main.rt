@@ -2,8 +2,12 @@
 // Positions and lengths run to 2 ^ 64 - 1, so that some sums would wrap.
 #![tactic(auto)]
 
-use cases::output::{hex, long, size, text};
-use wire::{Num, Pos};
+use cases::output::Hex;
+use std::{fmt, io};
+use wire::number_at;
+
+const BYTES: &[u8; 24] =
+    b"\x00\x7f\x80\xff\x01\x00\x00\x7f\x80\xff\xff\xff\xff\xff\xff\xff\xff\x00\x80\x00\x7f\x80\xff\xfe";
 
 const STARTS: [usize; 11] = [
     0,
@@ -36,143 +40,99 @@ const LENGTHS: [usize; 14] = [
     18446744073709551615,
 ];
 
-fn bytes(t: &[u8]) {
-    text(b" [");
-    hex(t);
-    text(b"]");
-}
+// A number that was read, if the bytes did not end before it.
+#[derive(Clone, Copy)]
+struct Number(Option<u64>);
 
-fn answer(yes: bool) {
-    if yes {
-        text(b" yes\n");
-    } else {
-        text(b" no\n");
-    }
-}
-
-fn number(x: Num) {
-    match x {
-        Num::Value(v) => {
-            text(b" ");
-            long(v);
-        }
-        Num::Short => {
-            text(b" short");
+impl fmt::Display for Number {
+    fn fmt<W: fmt::Write>(&self, f: &mut fmt::Formatter<W>) -> fmt::Result {
+        match self.0 {
+            Some(n) => write!(f, "{n}"),
+            None => write!(f, "short"),
         }
     }
 }
 
-fn position(p: Pos) {
-    match p {
-        Pos::At(e) => {
-            text(b" ends at ");
-            size(e);
-        }
-        Pos::Past => {
-            text(b" past the end");
-        }
+fn yes_or_no(yes: bool) -> &'static str {
+    if yes { "yes" } else { "no" }
+}
+
+fn show_numbers(rt: &impl Print, s: &[u8], at: usize) -> io::Result<()> {
+    let one = Number(number_at::<1>(s, at));
+    let two = Number(number_at::<2>(s, at));
+    let four = Number(number_at::<4>(s, at));
+    let eight = Number(number_at::<8>(s, at));
+    println!(rt; "numbers at {at} {one} {two} {four} {eight}")
+}
+
+// The numbers at positions in s, at its end and past it, and at the last positions that there are.
+fn show_all_numbers(rt: &impl Print, s: &[u8]) -> io::Result<()> {
+    for at in (0..=26).chain(18446744073709551606..=18446744073709551615) {
+        show_numbers(rt, s, at)?;
+    }
+    Ok(())
+}
+
+fn show_span(rt: &impl Print, s: &[u8], start: usize, n: usize) -> io::Result<()> {
+    let bytes = Hex(wire::span(s, start, n));
+    let inside = yes_or_no(wire::inside(s, start, n));
+    match wire::span_end(s, start, n) {
+        Some(end) => println!(rt; "span of {n} at {start} ends at {end} [{bytes}] {inside}"),
+        None => println!(rt; "span of {n} at {start} past the end [{bytes}] {inside}"),
     }
 }
 
-fn read(s: &[u8], at: usize) {
-    text(b"numbers at ");
-    size(at);
-    number(wire::u8_at(s, at));
-    number(wire::u16_at(s, at));
-    number(wire::u32_at(s, at));
-    number(wire::u64_at(s, at));
-    text(b"\n");
-}
-
-// The numbers at each position from first to last.
-fn reads(s: &[u8], first: usize, last: usize) {
-    let mut at = first;
-    while at < last {
-        read(s, at);
-        at += 1;
+fn show_spans_at(rt: &impl Print, s: &[u8], start: usize) -> io::Result<()> {
+    for n in LENGTHS {
+        show_span(rt, s, start, n)?;
     }
-    read(s, last);
+    Ok(())
 }
 
-fn span(s: &[u8], start: usize, n: usize) {
-    text(b"span of ");
-    size(n);
-    text(b" at ");
-    size(start);
-    position(wire::span_end(s, start, n));
-    bytes(wire::span(s, start, n));
-    answer(wire::inside(s, start, n));
-}
-
-fn spans_at(s: &[u8], start: usize) {
-    let mut i = 0;
-    while i < 14 {
-        span(s, start, LENGTHS[i]);
-        i += 1;
+fn show_spans(rt: &impl Print, s: &[u8]) -> io::Result<()> {
+    for start in STARTS {
+        show_spans_at(rt, s, start)?;
     }
+    Ok(())
 }
 
-fn spans(s: &[u8]) {
-    let mut i = 0;
-    while i < 11 {
-        spans_at(s, STARTS[i]);
-        i += 1;
-    }
-}
-
-fn same(a: &[u8], b: &[u8]) {
-    text(b"same");
-    bytes(a);
-    bytes(b);
-    answer(lists::same_bytes(a, b));
+fn show_same(rt: &impl Print, a: &[u8], b: &[u8]) -> io::Result<()> {
+    let same = yes_or_no(lists::same_bytes(a, b));
+    println!(rt; "same [{}] [{}] {same}", Hex(a), Hex(b))
 }
 
 // Each of two strings with each.
-fn sames(a: &[u8], b: &[u8]) {
-    same(a, a);
-    same(a, b);
-    same(b, a);
-    same(b, b);
-}
-
-fn hold(s: &[u8], at: usize, t: &[u8]) {
-    text(b"holds");
-    bytes(t);
-    text(b" at ");
-    size(at);
-    answer(wire::holds_at(s, at, t));
-}
-
-// Whether t stands at each position from first to last.
-fn holds(s: &[u8], first: usize, last: usize, t: &[u8]) {
-    let mut at = first;
-    while at < last {
-        hold(s, at, t);
-        at += 1;
+fn show_sames(rt: &impl Print, a: &[u8], b: &[u8]) -> io::Result<()> {
+    for (first, second) in [(a, a), (a, b), (b, a), (b, b)] {
+        show_same(rt, first, second)?;
     }
-    hold(s, last, t);
+    Ok(())
 }
 
-// Positions in s, at its end and past it, and the last positions that there are.
-fn holds_all(s: &[u8], t: &[u8]) {
-    holds(s, 0, 26, t);
-    holds(s, 18446744073709551612, 18446744073709551615, t);
+fn show_holds(rt: &impl Print, s: &[u8], at: usize, t: &[u8]) -> io::Result<()> {
+    let holds = yes_or_no(wire::holds_at(s, at, t));
+    println!(rt; "holds [{}] at {at} {holds}", Hex(t))
 }
 
-fn main() {
-    let s =
-        b"\x00\x7f\x80\xff\x01\x00\x00\x7f\x80\xff\xff\xff\xff\xff\xff\xff\xff\x00\x80\x00\x7f\x80\xff\xfe";
-    reads(s, 0, 26);
-    reads(s, 18446744073709551606, 18446744073709551615);
-    spans(s);
-    sames(b"", b"\x00");
-    sames(b"\x00\x7f\x80\xff", b"\x00\x7f\x80");
-    sames(b"\x00\x7f\x80\xff", b"\x01\x7f\x80\xff");
-    sames(b"\x00\x7f\x80\xff", b"\x00\x7f\x80\xfe");
-    holds_all(s, b"");
-    holds_all(s, b"\xfe");
-    holds_all(s, b"\x7f\x80\xff");
-    holds_all(s, b"\x7f\x80\xff\xfe");
-    holds_all(s, b"\x7f\x80\xff\xfe\x00");
-    holds_all(s, s);
+// Whether t stands at positions in s, at its end and past it, and at the last positions that there are.
+fn show_all_holds(rt: &impl Print, s: &[u8], t: &[u8]) -> io::Result<()> {
+    for at in (0..=26).chain(18446744073709551612..=18446744073709551615) {
+        show_holds(rt, s, at, t)?;
+    }
+    Ok(())
+}
+
+fn main(rt: HostRuntime) -> io::Result<()> {
+    show_all_numbers(&rt, BYTES)?;
+    show_spans(&rt, BYTES)?;
+    show_sames(&rt, b"", b"\x00")?;
+    show_sames(&rt, b"\x00\x7f\x80\xff", b"\x00\x7f\x80")?;
+    show_sames(&rt, b"\x00\x7f\x80\xff", b"\x01\x7f\x80\xff")?;
+    show_sames(&rt, b"\x00\x7f\x80\xff", b"\x00\x7f\x80\xfe")?;
+    show_all_holds(&rt, BYTES, b"")?;
+    show_all_holds(&rt, BYTES, b"\xfe")?;
+    show_all_holds(&rt, BYTES, b"\x7f\x80\xff")?;
+    show_all_holds(&rt, BYTES, b"\x7f\x80\xff\xfe")?;
+    show_all_holds(&rt, BYTES, b"\x7f\x80\xff\xfe\x00")?;
+    show_all_holds(&rt, BYTES, BYTES)
 }

@@ -1,17 +1,13 @@
--- Word by word: the bits found so far, and what the words from there on say.
-use mathlib.Core.Path.{refl, sym, ◌∙◌}
-use Rattle.frames.proofs.FramesTest.{word_more, words_end}
+-- All words are 0 just where no bit is set in them together.
+use mathlib.Core.Path.{◌≡◌}
+use lib.Bits.{bit_or}
+use borrow.Author.Rules.{rules}
+use Rattle.std.specs.List.{fold}
+use Rattle.frames.proofs.FramesTest.{none_set_in}
 use Rattle.frames.proofs.all_zero.Goals as goal
-
-pub loop-i-init : goal.loop-i-init
-loop-i-init c = refl
-
-pub loop-i-preserved : goal.loop-i-preserved
-loop-i-preserved c =
-    let at = c.loop-i in
-    at.invariant ∙ word_more _ at.i c.loop-i-test.true at.bits
 
 pub returns : goal.returns
 returns c =
-    let at = c.loop-i in
-    sym (at.invariant ∙ words_end _ at.i c.loop-i-test.false at.bits)
+    let words = c.args.words.now in
+    let e : c.fold.result ≡ fold bit_or 0 words = search rules in
+    rw e (none_set_in words 0)

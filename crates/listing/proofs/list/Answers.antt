@@ -1,20 +1,22 @@
 -- What the load answers says which text is put.
+use mathlib.Core.Path.{ap, sym}
 use native.Mathlib.Omega.{arith}
+use Rattle.refusals.specs.Numbers.{by_number}
 use Rattle.text.proofs.Putting.{at_start}
 use Rattle.report.proofs.Lines.{refused_fits}
 use Rattle.listing.proofs.Loads.{listing_refused, listing_accepted, accepted_exported}
 use Rattle.listing.proofs.list.Goals as goal
 
+pub put_accepted-requires : goal.put_accepted-requires
+put_accepted-requires c =
+    (accepted_exported _ c.load.ensures (ap by_number c.in-Ok.is) c.load.auto.exports, omega arith)
+
+pub returns-in-Ok : goal.returns-in-Ok
+returns-in-Ok c = rw (listing_accepted _ c.load.ensures (ap by_number c.in-Ok.is)) (at_start c.put_accepted.ensures)
+
 pub put_refused-requires : goal.put_refused-requires
 put_refused-requires c = refused_fits _ _ (omega arith)
 
-pub put_accepted-requires : goal.put_accepted-requires
-put_accepted-requires c =
-    let answered = c.load in
-    (accepted_exported _ answered.ensures c.in-Accepted.is answered.auto.exports, omega arith)
-
-pub returns-in-Refused : goal.returns-in-Refused
-returns-in-Refused c = rw (listing_refused _ c.load.ensures c.in-Refused.is) (at_start c.put_refused.ensures)
-
-pub returns-in-Accepted : goal.returns-in-Accepted
-returns-in-Accepted c = rw (listing_accepted _ c.load.ensures c.in-Accepted.is) (at_start c.put_accepted.ensures)
+pub returns-in-Err : goal.returns-in-Err
+returns-in-Err c =
+    rw (listing_refused _ c.load.ensures (ap by_number c.in-Err.is), sym c.from.ensures) (at_start c.put_refused.ensures)

@@ -1,9 +1,6 @@
--- The place in the input grows.
-use Rattle.std.proofs.Common.{◌-◌, length}
+-- Each case leaves less of the input.
+use Rattle.std.proofs.Common.{length}
 use Rattle.load_cases.proofs.show_cases.Given as goal
 
-abbrev pub invariant-loop-at : goal.invariant-loop-at
-invariant-loop-at g l = Unit {0}
-
-abbrev pub decreases-loop-at : goal.decreases-loop-at
-decreases-loop-at g l = length l.s - l.at
+abbrev pub decreases-loop-input : goal.decreases-loop-input
+decreases-loop-input g l = length l.input.rest.now

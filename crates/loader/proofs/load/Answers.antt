@@ -1,5 +1,7 @@
 -- A refusal by 1 to 20, or what is admitted to our part of the table.
+use mathlib.Core.Path.{refl}
 use native.Mathlib.Omega.{arith}
+use Rattle.refusals.proofs.Outcomes.{handed_on}
 use Rattle.table.proofs.Signed.{as_passed}
 use Rattle.bundle.proofs.Verdicts.{judged_refused, judged_passed, judged_described}
 use Rattle.loader.proofs.Loading.{started_inside, load_refused, load_admitted}
@@ -16,17 +18,16 @@ slice_bounds-admit-start c = started_inside _ _ c.start-at.ensures
 
 pub admit-requires : goal.admit-requires
 admit-requires c =
-    let found = c.in-Passed.is in
-    let checked = c.check_and_place.ensures in
-    let clear = judged_passed _ checked.0 found in
-    record { clear = clear; found = judged_described _ checked.0 found; placing = checked.1 clear }
+    let (found, placed) = c.in_ok-c.ensures in
+    let clear = judged_passed _ found refl in
+    record { clear = clear; found = judged_described _ found refl; placing = placed clear }
 
-pub returns-in-Refused : goal.returns-in-Refused
-returns-in-Refused c =
-    let told = judged_refused _ c.check_and_place.ensures.0 c.in-Refused.is in
-    load_refused _ _ _ _ told.0 told.1
+pub returns-in_err-c : goal.returns-in_err-c
+returns-in_err-c c =
+    let told = judged_refused _ c.in_err-c.ensures.0 refl in
+    rw (handed_on _ _ c.from_residual.ensures.1) (load_refused _ _ _ _ told.0 told.1)
 
-pub returns-in-Passed : goal.returns-in-Passed
-returns-in-Passed c =
-    load_admitted _ _ _ _ (judged_passed _ c.check_and_place.ensures.0 c.in-Passed.is)
+pub returns : goal.returns
+returns c =
+    load_admitted _ _ _ _ (judged_passed _ c.in_ok-c.ensures.0 refl)
     (as_passed _ c.ranges.base) _ c.start-at.ensures c.admit.ensures

@@ -1,20 +1,20 @@
--- The hashes after the count that was read.
-use mathlib.Core.Path.{sym, ◌∙◌}
-use native.Mathlib.Omega.{arith}
-use Rattle.wire.proofs.Spans.{number_value}
-use Rattle.nodes.specs.Records.{lacks}
-use Rattle.references.specs.References.{hashes_at}
+-- One of the places has a hash that is lost.
+use Rattle.std.proofs.Common.{ℕ, rules, tests, not, ◌∙◌, sym, ap}
+use Rattle.std.specs.Prelude.{is_some}
+use Rattle.std.proofs.lemmas.Iterator.Consumers.{YieldsList-from_first}
+use Rattle.std.proofs.lemmas.Iterator.Search.{any_from_yields_List}
+use Rattle.lists.specs.Lists.{index_of}
+use Rattle.manifest.specs.Content.{reference_hash, places_at, left_places}
+use Rattle.nodes.specs.Records.{hashes, lacks, nodes_of}
+use Rattle.references.proofs.Hashes.{hashes_there, lost_there}
 use Rattle.references.proofs.lost.Goals as goal
 
-pub overflow_add-at : goal.overflow_add-at
-overflow_add-at c = omega (arith, (number_value _ _ _ c.u32_at.ensures c.in-Value.is).0)
-
-pub returns-in-Value : goal.returns-in-Value
-unfolding hashes_at
-returns-in-Value c =
-    let number = c in
-    rw (sym number.u32_at.ensures ∙ number.in-Value.is) c.lost_from.ensures
-
-pub returns-in-Short : goal.returns-in-Short
-unfolding hashes_at lacks
-returns-in-Short c = rw (sym c.u32_at.ensures ∙ c.in-Short.is)
+pub returns : goal.returns
+returns c =
+    let m = c.args.m.now in
+    let rs = nodes_of c.args.s.now in
+    any_from_yields_List (λ (p : ℕ). not (is_some (index_of (reference_hash m c.args.kind p) 0 (hashes rs)))) c.any.new.self _
+    c.any.result c.any.ensures.ran (YieldsList-from_first (λ x. x) left_places _ c.after.ensures)
+    (λ x b q k. search (rules, tests))
+    ∙ lost_there m c.args.kind rs (places_at m c.args.kind c.args.at)
+    ∙ ap (lacks rs) (sym (hashes_there m c.args.kind c.args.at))

@@ -9,29 +9,28 @@ use Rattle.report.proofs.put_lines.Goals as goal
 
 pub loop-i-init : goal.loop-i-init
 unfolding lines
-loop-i-init c = (omega arith, refl, put_none _ _)
+loop-i-init c = (refl, put_none _ _)
 
-pub name_of-name-requires : goal.name_of-name-requires
-name_of-name-requires c = c.requires.0
+pub name_of-requires : goal.name_of-requires
+name_of-requires c = c.requires.0
 
 pub put_line-p-requires : goal.put_line-p-requires
 put_line-p-requires c =
-    line_fits c.requires.1 c.loop-i-test.true c.name_of-name.ensures c.of.ensures c.args.at c.loop-i.p
-    (length c.loop-i.out) (omega arith) c.loop-i.invariant.2.ends
+    line_fits c.requires.1 c.loop-i-test.true c.name_of.ensures c.of.ensures c.args.at c.loop-i.p
+    (length c.loop-i.out) (omega arith) c.loop-i.invariant.1.ends
 
 pub loop-i-preserved : goal.loop-i-preserved
 loop-i-preserved c = (
-  omega arith,
-  c.put_line-p.auto.out ∙ c.loop-i.invariant.1,
-  line_put c.requires.1 c.loop-i-test.true c.name_of-name.ensures c.of.ensures c.loop-i.invariant.2
+  c.put_line-p.auto.out ∙ c.loop-i.invariant.0,
+  line_put c.requires.1 c.loop-i-test.true c.name_of.ensures c.of.ensures c.loop-i.invariant.1
       c.put_line-p.ensures,
 )
 
 pub shape_of-out : goal.shape_of-out
-shape_of-out c = c.loop-i.invariant.1
+shape_of-out c = c.loop-i.invariant.0
 
 pub returns : goal.returns
 returns c =
     let turn = c.loop-i in
     let e : turn.i ≡ c.args.count = omega arith in
-    rw e at turn.invariant.2
+    rw e at turn.invariant.1

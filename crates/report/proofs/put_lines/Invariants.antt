@@ -1,5 +1,4 @@
 -- The lines of the first i exports are put.
-use Prim.Native.Nat.{◌-◌, ◌≤◌}
 use mathlib.Core.Path.{◌≡◌}
 use lib.ListN.{length, take}
 use Rattle.manifest.specs.Content.{names}
@@ -10,7 +9,4 @@ use Rattle.report.proofs.put_lines.Given as goal
 
 abbrev pub invariant-loop-i : goal.invariant-loop-i
 invariant-loop-i l =
-    (l.i ≤ l.count) × (length l.out ≡ length l.initial.out) × Put (lines (take l.i l.slots) (names (exports_in l.input))) l.initial.out l.at l.out l.p
-
-abbrev pub decreases-loop-i : goal.decreases-loop-i
-decreases-loop-i l = l.count - l.i
+    (length l.out ≡ length l.initial.out) × Put (lines (take l.i l.slots) (names (exports_in l.input))) l.initial.out l.at l.out l.p

@@ -1,10 +1,9 @@
--- What is left to hash from i on, from the value so far, is the whole.
-use Rattle.std.proofs.Common.{◌≡◌, ◌-◌, ◌/◌, ◌≤◌, length, drop}
-use Rattle.sha256_block.specs.Fips180.{hash}
+-- What is left to hash, from the value so far, is the whole.
+use Rattle.std.proofs.Common.{◌≡◌}
+use Rattle.std.specs.Slice.Iter.{chunks_exact_rest, chunks_exact_size}
+use Rattle.sha256_block.specs.Fips180.{hash_all}
 use Rattle.sha256_block.proofs.hash_all.Given as goal
 
-abbrev pub invariant-loop-i : goal.invariant-loop-i
-invariant-loop-i l = (l.i ≤ length l.m) × (hash ((length l.m - l.i) / 64) l.h (drop l.i l.m) ≡ hash (length l.m / 64) l.initial.h l.m)
-
-abbrev pub decreases-loop-i : goal.decreases-loop-i
-decreases-loop-i l = length l.m - l.i
+abbrev pub invariant-loop-block : goal.invariant-loop-block
+invariant-loop-block l =
+    (chunks_exact_size l.block-iterator ≡ 64) × (hash_all l.h (chunks_exact_rest l.block-iterator) ≡ hash_all l.initial.h l.m)

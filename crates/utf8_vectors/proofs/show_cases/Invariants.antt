@@ -1,9 +1,6 @@
--- Each case moves the place on.
-use Rattle.std.proofs.Common.{◌-◌, ◌≤◌, length}
+-- Each case leaves less of the input.
+use Rattle.std.proofs.Common.{length}
 use Rattle.utf8_vectors.proofs.show_cases.Given as goal
 
-abbrev pub invariant-loop-at : goal.invariant-loop-at
-invariant-loop-at l = (l.at ≤ length l.s)
-
-abbrev pub decreases-loop-at : goal.decreases-loop-at
-decreases-loop-at l = length l.s - l.at
+abbrev pub decreases-loop-size : goal.decreases-loop-size
+decreases-loop-size g l = length l.rest

@@ -1,4 +1,4 @@
--- What is found so far is what is to be found of the entries from `left` on.
+-- What is found so far is what is to be found of the entries from i on.
 use Prim.Native.Nat.{◌+◌, ◌*◌, ◌≤◌}
 use mathlib.Core.Path.{◌≡◌}
 use lib.ListN.{length}
@@ -7,11 +7,8 @@ use Rattle.container.specs.Survey.{surveyed}
 use Rattle.container.proofs.Surveys.{entries_after}
 use Rattle.container.proofs.directory.surveyed.Given as goal
 
-abbrev pub invariant-loop-left : goal.invariant-loop-left
-invariant-loop-left l =
-    (l.left ≤ section_count l.file)
+abbrev pub invariant-loop-i : goal.invariant-loop-i
+invariant-loop-i l =
+    (l.i ≤ section_count l.file)
     × (header_bytes + entry_bytes * section_count l.file ≤ length l.file)
-    × (l.s ≡ surveyed l.file (entries_after l.file (section_count l.file) l.left))
-
-abbrev pub decreases-loop-left : goal.decreases-loop-left
-decreases-loop-left l = l.left
+    × (l.s ≡ surveyed l.file (entries_after l.file (section_count l.file) l.i))

@@ -1,52 +1,20 @@
--- The three tests in their order; the size keeps the sum small.
-use mathlib.Core.Path.{sym, ◌∙◌}
+-- The size keeps the sum small.
+use mathlib.Core.Path.{◌≡◌, sym, ◌∙◌}
+use mathlib.Core.Bool.{true}
 use native.Mathlib.Omega.{arith}
-use borrow.Author.Tests.{eq-eqb, ne_eqb}
-use Rattle.lists.specs.Lists.{any_of}
+use borrow.Author.Tests.{not-false}
 use Rattle.sizes.proofs.Within.{within_exactly}
-use Rattle.lists.proofs.Tests.{cond_test}
-use Rattle.container.specs.Header.{no_directory, directory_offset}
 use Rattle.container.proofs.header.no_directory.Goals as goal
+use Rattle.container.proofs.header.no_directory.Goals.{then-not-allows, else-not-allows}
 
-pub returns-then-not-allows : goal.returns-then-not-allows
-unfolding no_directory any_of
-returns-then-not-allows c =
-    rw (
-      ← c.section_count-n.ensures,
-      sym c.allows.ensures ∙ c.if-not-allows.true,
-    )
-
-pub returns-then-or_zero : goal.returns-then-or_zero
-unfolding no_directory any_of directory_offset
-returns-then-or_zero c =
-    let size = c in
-    rw (
-      ← size.section_count-n.ensures,
-      sym size.allows.ensures ∙ size.if-not-allows.false,
-      ← c.u64_at.ensures,
-      ← c.or_zero.ensures,
-      ne_eqb _ _ c.if-or_zero.true,
-    )
+allowed : (c : goal.Else-unwrap_or) → c.allows.result ≡ true
+allowed c = elim c.if-not-allows.branch [
+  | then-not-allows w ↦ not-false _ (sym w.value-is ∙ c.if-unwrap_or.false)
+  | else-not-allows w ↦ w.if-not-allows.false
+]
 
 pub overflow_mul-result : goal.overflow_mul-result
-overflow_mul-result c =
-    let size = c in
-    omega (arith, (within_exactly _ _).0 (sym size.allows.ensures ∙ size.if-not-allows.false))
+overflow_mul-result c = omega (arith, (within_exactly _ _).0 (sym c.allows.ensures ∙ allowed c))
 
 pub overflow_add-result : goal.overflow_add-result
-overflow_add-result c =
-    let size = c in
-    omega (arith, (within_exactly _ _).0 (sym size.allows.ensures ∙ size.if-not-allows.false))
-
-pub returns : goal.returns
-unfolding no_directory any_of directory_offset
-returns c =
-    let size = c in
-    rw (
-      ← size.section_count-n.ensures,
-      sym size.allows.ensures ∙ size.if-not-allows.false,
-      ← c.u64_at.ensures,
-      ← c.or_zero.ensures,
-      eq-eqb _ _ c.if-or_zero.false,
-      cond_test,
-    )
+overflow_add-result c = omega (arith, (within_exactly _ _).0 (sym c.allows.ensures ∙ allowed c))

@@ -1,18 +1,11 @@
--- The exports after the count that was read.
-use native.Mathlib.Omega.{arith}
-use Rattle.wire.proofs.Spans.{number_value}
-use Rattle.manifest.specs.Content.{places_at}
+-- The item of the places by its index.
+use Rattle.std.proofs.Common.{◌∙◌, sym}
+use Rattle.std.proofs.lemmas.Iterator.Adapters.{option_map_id}
+use Rattle.std.proofs.lemmas.Iterator.Consumers.{YieldsList-from_first, nth_from_yields_List}
+use Rattle.manifest.specs.Content.{left_places}
 use Rattle.manifest.proofs.exports.place_at.Goals as goal
 
-pub overflow_add-at : goal.overflow_add-at
-overflow_add-at c =
-    omega (arith, number_value _ _ _ c.u32_at.ensures c.in-Value.is)
-
-pub returns-in-Value : goal.returns-in-Value
-unfolding places_at
-returns-in-Value c =
-    rw (← c.u32_at.ensures, c.in-Value.is) c.place_from.ensures
-
-pub returns-in-Short : goal.returns-in-Short
-unfolding places_at
-returns-in-Short c = rw (← c.u32_at.ensures, c.in-Short.is)
+pub returns : goal.returns
+returns c =
+    sym (option_map_id _) ∙ nth_from_yields_List c.nth.result c.nth.new.self c.args.i c.nth.ensures.ran
+    (YieldsList-from_first (λ x. x) left_places _ c.after.ensures)

@@ -1,25 +1,15 @@
--- The count of bits fits after what is buffered, or takes a block of its own.
-use Rattle.std.proofs.Common.{◌≡◌, length, rules}
+-- The count of bits ends the block that holds the mark, or one after it.
+use Rattle.std.proofs.Common.{◌≡◌, ◌∙◌, length, rules}
 use Rattle.sha256.proofs.Finishing.{finish_one, finish_two}
 use Rattle.sha256.proofs.Running.finish.Goals as goal
-
-pub returns-then-at-lt-ONE_BLOCK : goal.returns-then-at-lt-ONE_BLOCK
-returns-then-at-lt-ONE_BLOCK c =
-    let s = c.args.self in
-    let l : length s.block ≡ 64 = search rules in
-    finish_one s l _ _
-    c.length_bytes-size.ensures
-    c.in_block-marked.ensures _ _ _
-    c.if-at-lt-ONE_BLOCK.true c.store.ensures
-    c.compress.ensures c.bytes_of.ensures
+use Rattle.sha256.proofs.Running.finish.Goals.{then-at-ge-ONE_BLOCK, else-at-ge-ONE_BLOCK}
 
 pub returns : goal.returns
 returns c =
     let s = c.args.self in
     let l : length s.block ≡ 64 = search rules in
-    finish_two s l _ _
-    c.length_bytes-size.ensures
-    c.in_block-marked.ensures _ _ _ _
-    c.if-at-lt-ONE_BLOCK.false
-    c.compress-h.ensures c.store-2.ensures
-    c.compress-2.ensures c.bytes_of-2.ensures
+    let bits = c.copy_from_slice.ensures.after ∙ c.length_bytes.ensures in
+    elim c.if-at-ge-ONE_BLOCK.branch [
+      | then-at-ge-ONE_BLOCK w ↦ finish_two s l _ _ _ _ _ bits c.compress.ensures c.bytes_of.ensures _ w.if-at-ge-ONE_BLOCK.true c.put_in_block.ensures w.block-is (w.h-is ∙ w.compress-next.ensures)
+      | else-at-ge-ONE_BLOCK w ↦ finish_one s l _ _ _ _ _ bits c.compress.ensures c.bytes_of.ensures w.if-at-ge-ONE_BLOCK.false (w.block-is ∙ c.put_in_block.ensures) w.h-is
+    ]

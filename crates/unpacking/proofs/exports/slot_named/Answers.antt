@@ -5,25 +5,17 @@ use Rattle.table.specs.declared.slots.Slot.{Slot}
 use Rattle.unpacking.proofs.Placements.{named_there, named_found, named_lost}
 use Rattle.unpacking.proofs.exports.slot_named.Goals as goal
 
-pub slot_at-slot-requires : goal.slot_at-slot-requires
-slot_at-slot-requires c =
-    let asked = c in
-    named_there asked.requires _ asked.find_record.ensures c.in-Index.is
+pub slot_at-requires : goal.slot_at-requires
+slot_at-requires c = named_there c.requires _ c.find_record.ensures c.in-Some.is
 
 pub overflow_cast-result : goal.overflow_cast-result
 overflow_cast-result c =
-    let words = c.type_inv.slots in
-    let slot = ap (λ (x : Slot). x.0) c.slot_at-slot.ensures in
-    omega (arith, slot, words c.in-Index.i)
+    let slot = ap (λ (x : Slot). x.0) c.slot_at.ensures in
+    omega (arith, slot, c.type_inv.slots c.in-Some.i)
 
-pub returns-in-Index : goal.returns-in-Index
-returns-in-Index c =
-    let found = c in
-    let asked = found in
-    ap (λ (x : Slot). x.0)
-    (named_found asked.requires _ asked.find_record.ensures found.in-Index.is c.slot_at-slot.ensures)
+pub returns-in-Some : goal.returns-in-Some
+returns-in-Some c =
+    ap (λ (x : Slot). x.0) (named_found c.requires _ c.find_record.ensures c.in-Some.is c.slot_at.ensures)
 
-pub returns-in-Nothing : goal.returns-in-Nothing
-returns-in-Nothing c =
-    let asked = c in
-    ap (λ (x : Slot). x.0) (named_lost asked.requires _ asked.find_record.ensures c.in-Nothing.is)
+pub returns-in-None : goal.returns-in-None
+returns-in-None c = ap (λ (x : Slot). x.0) (named_lost c.requires _ c.find_record.ensures c.in-None.is)

@@ -1,9 +1,0 @@
--- The place in the table grows, and stays within it.
-use Rattle.std.proofs.Common.{◌-◌, ◌≤◌, length}
-use Rattle.load_cases.proofs.digest.Given as goal
-
-abbrev pub invariant-loop-i : goal.invariant-loop-i
-invariant-loop-i l = l.i ≤ length l.table
-
-abbrev pub decreases-loop-i : goal.decreases-loop-i
-decreases-loop-i l = length l.table - l.i

@@ -1,5 +1,0 @@
--- From the position, where there is one.
-use Rattle.manifest_shape.proofs.then_counted.Goals as goal
-
-pub returns-in-To : goal.returns-in-To
-returns-in-To c = rw c.in-To.is c.counted_end.ensures

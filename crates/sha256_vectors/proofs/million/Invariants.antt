@@ -1,9 +1,0 @@
--- The count falls to zero.
-use Prim.Native.Nat.{◌≤◌}
-use Rattle.sha256_vectors.proofs.million.Given as goal
-
-abbrev pub invariant-loop-left : goal.invariant-loop-left
-invariant-loop-left l = l.left ≤ 1000
-
-abbrev pub decreases-loop-left : goal.decreases-loop-left
-decreases-loop-left l = l.left
