@@ -40,12 +40,14 @@ rm -rf "$kit"
 sed -i -E '/^(target (datalayout|triple)|; ModuleID)/d
     s/"(target-cpu|tune-cpu|target-features)"="[^"]*" ?//g' "$out/module.ll"
 
-# It may know no size of x86-64 either. All places and sizes in it are written in bytes, and a pointer that stands alone is never copied as bytes.
+# It may know no size of x86-64 either. All places and sizes in it are written in bytes, a pointer that stands alone is never copied as bytes,
+# and none is read or written as a part of a pair, whose places go by its size, but before 64 bits, which come after 8 bytes everywhere.
 awk '/^define/ { split("", pointer) }
     $3 == "alloca" && $4 == "ptr," { pointer[$1] = 1 }
     $3 == "alloca" && $4 ~ /^[{%<]/ { known = $0 }
     /call void @llvm\.mem/ { n = split($0, word, /[ ,()]+/); for (i = 1; i <= n; i++) if (word[i] in pointer) known = $0 }
-    /ptrtoint|inttoptr/ { known = $0 }
+    /(load|store) [{[].*ptr.*, ptr %/ && !/(load|store) \{ ptr, i64 \}/ { known = $0 }
+    /ptrtoint|ptrtoaddr|inttoptr/ { known = $0 }
     END { if (known) { print "The module knows how long a pointer is: " known; exit 1 } }' "$out/module.ll"
 sed -E '/"probe-stack"/s/^(attributes #[0-9]+ = \{ )/\1uwtable /' "$out/module.ll" >"$out/unwound.ll"
 

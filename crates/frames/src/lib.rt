@@ -130,11 +130,16 @@ fn each_sound(jobs: &[u32], used: u32, waiting: u32) -> bool
     true
 }
 
-// Whether every word is 0. All are looked at, whatever comes, so that several can be at once.
+// Whether every word is 0. All are looked at, whatever comes, so that several can be at once. By `for`: `fold` would hand each
+// reference to a closure as an Option, in a place of the size that one has on x86-64.
 fn all_zero(words: &[u32]) -> bool
     ensures { result ≡ all_zero words.now }
 {
-    words.iter().fold(0, |bits, word| bits | *word) == 0
+    let mut bits: u32 = 0;
+    for word in words {
+        bits |= *word;
+    }
+    bits == 0
 }
 
 // Whether every word is 0: block by block, up to the first that has another.

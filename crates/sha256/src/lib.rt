@@ -5,6 +5,8 @@ ghost use Rattle.std.specs.Prelude.{◌≡◌, ◌+◌, ◌≤◌, ◌++◌, len
 ghost use Rattle.sha256_block.specs.Fips180.{sha256};
 ghost use Rattle.sha256.specs.Running.{in_block, buffered, fresh, absorbed, finished_hash};
 
+use sha256_block::copy_over;
+
 // A hash of the bytes so far: the hash value after their whole blocks, the bytes since in the first places of the
 // block with zeros after them, and the count of bytes, modulo 2^64, which says how many of the block they are: no heap.
 #[derive(Clone, Copy)]
@@ -24,7 +26,7 @@ fn put_in_block(block: &mut [u8; 64], at: usize, part: &[u8])
     ensures { block.new ≡ in_block (take at block.old ++ part.now) }
 {
     let end = at + part.len();
-    block[at..end].copy_from_slice(part);
+    copy_over(&mut block[at..end], part);
     block[end..].fill(0);
 }
 
@@ -93,7 +95,7 @@ impl Running {
             h = next;
             block = [0; 64];
         }
-        block[56..].copy_from_slice(&sha256_block::length_bytes(total << 3));
+        copy_over(&mut block[56..], &sha256_block::length_bytes(total << 3));
         sha256_block::bytes_of(sha256_block::compress(h, &block))
     }
 }

@@ -34,9 +34,10 @@ struct Work {
     h: u32,
 }
 
-// Word t of a block.
-fn word_at(block: &[u8; 64], t: usize) -> u32
-    requires { t < 16 }
+// Word t of a block. A block is a slice in all four: `as_array` would hand a reference out as an Option, in a place of the size that
+// one has on x86-64.
+fn word_at(block: &[u8], t: usize) -> u32
+    requires { (length block.now ≡ 64) × (t < 16) }
     ensures { result ≡ word_at block.now t }
 {
     let at = 4 * t;
@@ -55,7 +56,8 @@ fn mixed(w2: u32, w7: u32, w15: u32, w16: u32) -> u32
 
 // The first 16 words of the message schedule, which are the block's.
 #[tactic(auto, using(std::proofs::lemmas::Grind::common_steps, crate::proofs::Words::schedule_none, crate::proofs::Words::schedule_first))]
-fn message(block: &[u8; 64]) -> [u32; 64]
+fn message(block: &[u8]) -> [u32; 64]
+    requires { length block.now ≡ 64 }
     ensures { take 16 result ≡ schedule block.now 16 }
 {
     let mut w = [0u32; 64];
@@ -68,7 +70,8 @@ fn message(block: &[u8; 64]) -> [u32; 64]
 // The message schedule of a block: after its own 16 words the other 48. Two a turn: x and y are the two newest words, which the
 // next two need at once, and so they stay in registers and are not read back from w. One a turn takes 4 in 100 longer.
 #[tactic(auto, using(std::proofs::lemmas::Grind::common_steps, crate::proofs::Words::schedule_two))]
-fn schedule(block: &[u8; 64]) -> [u32; 64]
+fn schedule(block: &[u8]) -> [u32; 64]
+    requires { length block.now ≡ 64 }
     ensures { result ≡ schedule block.now 64 }
 {
     let mut w = message(block);
@@ -178,7 +181,7 @@ pub fn compress(v: [u32; 8], block: &[u8]) -> [u32; 8]
     requires { length block.now ≡ 64 }
     ensures { result ≡ compress v block.now }
 {
-    let w = schedule(block.as_array().unwrap());
+    let w = schedule(block);
     combined(v, rounds(&w, initial(v)))
 }
 
@@ -195,6 +198,17 @@ pub fn hash_all(v: [u32; 8], m: &[u8]) -> [u32; 8]
     h
 }
 
+// Bytes over as many others. Not by `copy_from_slice`, which compares where the two lie: no size of a pointer is known here.
+#[tactic(auto, using(std::proofs::lemmas::Grind::common_steps))]
+pub fn copy_over(to: &mut [u8], bytes: &[u8])
+    requires { length to.old ≡ length bytes.now }
+    ensures { to.new ≡ bytes.now }
+{
+    for i in 0..bytes.len() {
+        to[i] = bytes[i];
+    }
+}
+
 // The bytes of a hash value.
 #[tactic(auto, using(std::proofs::lemmas::Slice::overwrites, crate::proofs::Digest::digest_word), unfolding(crate::specs::Fips180::bytes_of, crate::specs::Fips180::tabulate))]
 pub fn bytes_of(v: [u32; 8]) -> [u8; 32]
@@ -202,7 +216,7 @@ pub fn bytes_of(v: [u32; 8]) -> [u8; 32]
 {
     let mut out = [0u8; 32];
     for (i, word) in v.iter().enumerate() {
-        out[4 * i..4 * i + 4].copy_from_slice(&word.to_be_bytes());
+        copy_over(&mut out[4 * i..4 * i + 4], &word.to_be_bytes());
     }
     out
 }
