@@ -84,7 +84,9 @@ fn stop_refusal(jobs: &[u32], used: u32, waiting: u32, steps: u32, fuel: u32) ->
     Ok(())
 }
 
-// All of them.
+// All of them. A function of its own in the archive, for the reason that `drive` is one: its loops over slots and jobs then have registers
+// to themselves.
+#[inline(never)]
 #[tactic(auto, unfolding(crate::specs::Admission::run_rows, crate::specs::Admission::slot_rows, refusals::specs::Refusals::answer))]
 pub(crate) fn refusal(words: &[u32], jobs: &[u32], asked: Request) -> Result<(), Refusal>
     ensures { answer_of result

@@ -96,7 +96,9 @@ fn stopped(why: stops::Stop, s: State, steps: u32) -> Ending
     }
 }
 
-// Steps from a state on until the run is done or stopped; the fuel has the steps so far.
+// Steps from a state on until the run is done or stopped; the fuel has the steps so far. Not inlined: what its caller holds would take
+// registers of the loop.
+#[inline(never)]
 #[tactic(auto, using(crate::proofs::DriveWays::turns))]
 fn drive(words: &mut [u32], jobs: &mut [u32], start: State, fuel: Fuel) -> Ending
     requires { Runnable words.old start × Waits jobs.old start.used start.waiting

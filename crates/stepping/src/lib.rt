@@ -15,12 +15,13 @@ use table::slots::{Node, Slot, node_at};
 mod rules;
 pub mod stops;
 
-// Slot f is to be applied to slot x; so many slots are used, and so many frames wait.
+// Slot f is to be applied to slot x; so many slots are used, and so many frames wait. In this order, so that in a `Turn` no field
+// of another width lies where x does: x then keeps a register of its own in the run's loop.
 #[derive(Clone, Copy, Debug, PartialEq, Eq)]
 pub struct State {
     pub f: Slot,
-    pub x: Slot,
     pub used: u32,
+    pub x: Slot,
     pub waiting: u32,
 }
 
