@@ -1,18 +1,15 @@
 // The input, and what stands in it: numbers, each in four bytes, and tables and byte strings after their lengths.
-ghost use Rattle.std.specs.Prelude.{◌≡◌, ◌==◌, ◌-◌, ◌≤◌, length};
+ghost use Rattle.std.specs.Prelude.{◌≡◌, ◌==◌, ◌-◌, ◌≤◌, length, IfOk};
+ghost use Rattle.io.specs.Counts.{IsPrefixLen};
 
 use std::alloc::{AllocError, Global};
 use std::io::Read;
 
-// The first bytes that there are to read, at most so many. A read that fails ends them.
-pub fn read_start<R: Read + Drop>(
-    mut from: R,
-    most: usize,
-    alloc: Global,
-) -> Result<Vec<u8>, AllocError> {
-    // The room is taken before the reads, and what was read is counted: `read_to_end` fails alike where a read fails and where there is
-    // no memory.
-    let mut bytes = vec![in alloc; 0; most]?;
+// Reads as much as there is room for; answers how many bytes that is. A read that fails ends them.
+pub fn read_full<R: Read + Drop>(mut from: R, bytes: &mut [u8]) -> usize
+    ensures { IsPrefixLen result bytes.new }
+{
+    // What was read is counted: `read_to_end` fails alike where a read fails and where there is no memory.
     let mut count = 0;
     while count < bytes.len()
         && let Ok(n) = from.read(&mut bytes[count..])
@@ -20,8 +17,7 @@ pub fn read_start<R: Read + Drop>(
     {
         count += n;
     }
-    bytes.truncate(count);
-    Ok(bytes)
+    count
 }
 
 // What is still to be read of the input.
@@ -71,7 +67,8 @@ impl<'a> Cursor<'a> {
 
     // The next number, which is a length, and no more than there is room for.
     pub fn number_up_to(&mut self, most: u32) -> u32
-        ensures { length self.new.rest.now ≡ length self.old.rest.now - 4 }
+        ensures bound { result ≤ most }
+        ensures rest { length self.new.rest.now ≡ length self.old.rest.now - 4 }
     {
         self.number().min(most)
     }
@@ -86,7 +83,8 @@ impl<'a> Cursor<'a> {
 
     // The next table, of at most so many numbers; those after the end are 0.
     pub fn table(&mut self, most: u32, alloc: Global) -> Result<Vec<u32>, AllocError>
-        ensures { length self.new.rest.now ≤ length self.old.rest.now - 4 }
+        ensures bound { IfOk result (λ table. length table.items ≤ most) }
+        ensures rest { length self.new.rest.now ≤ length self.old.rest.now - 4 }
     {
         let count = self.number_up_to(most) as usize;
         let (words, _) = self.next_bytes(4 * count).as_chunks();

@@ -1,5 +1,10 @@
-// How bytes and tables are written.
-use std::fmt;
+// How bytes and tables are written, and what is told of a write that fails.
+ghost use Rattle.std.specs.Prelude.{◌≡◌, IfErr};
+ghost use Rattle.std.specs.IoError.{error_kind};
+ghost use Rattle.std.specs.declared.io.ErrorKind.TheVariants.{OutOfMemory};
+
+use std::io::ErrorKind;
+use std::{fmt, io};
 
 // Bytes, with two digits for each.
 #[derive(Clone, Copy)]
@@ -24,5 +29,16 @@ impl fmt::Display for Words<'_> {
             write!(f, " {word}")?;
         }
         Ok(())
+    }
+}
+
+// What is left to tell of what was shown: a write that fails is passed over, running out of memory is not.
+pub fn passed_over(shown: io::Result<()>) -> io::Result<()>
+    ensures writes { IfErr result (λ e. (error_kind e ≡ OutOfMemory) × (result ≡ shown)) }
+    ensures memory { IfErr shown (λ e. error_kind e ≡ OutOfMemory → result ≡ shown) }
+{
+    match shown {
+        Err(error) if error.kind() == ErrorKind::OutOfMemory => shown,
+        _ => Ok(()),
     }
 }

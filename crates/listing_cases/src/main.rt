@@ -2,7 +2,7 @@
 #![tactic(auto)]
 
 use cases::files::read_file;
-use cases::input::read_start;
+use cases::input::read_full;
 use listing::TEXT_BYTES;
 use std::io;
 use std::rt::Files;
@@ -13,20 +13,27 @@ const INPUT_BYTES: usize = 4096;
 // A byte more than the largest bundle has is read of a file.
 const FILE_BYTES: usize = 65_537;
 
-fn show_file(rt: &(impl Files + Print + AllocGlobal), name: &[u8]) -> io::Result<()> {
-    let file = read_file(rt, name, FILE_BYTES)?;
+fn show_file(rt: &(impl Files + Print), name: &[u8]) -> io::Result<()> {
+    let mut room = [0; FILE_BYTES];
+    let count = read_file(rt, name, &mut room);
     // `list` is lent a fixed buffer, as check_bundle has one, and answers how much of it is filled.
     let mut text = [0; TEXT_BYTES];
-    let written = listing::list(&file, &mut text);
+    let written = listing::list(&room[..count], &mut text);
     rt.write_all(name)?;
     rt.write_all(b"\n")?;
     rt.write_all(&text[..written])
 }
 
-fn main(rt: HostRuntime) -> io::Result<()> {
-    let names = read_start(rt.reader(), INPUT_BYTES, rt.alloc())?;
+fn show_files(rt: &(impl Files + Print), names: &[u8]) -> io::Result<()> {
     for line in names.split_inclusive(|byte| *byte == b'\n') {
-        show_file(&rt, line.strip_suffix(b"\n").unwrap_or(line))?;
+        show_file(rt, line.strip_suffix(b"\n").unwrap_or(line))?;
     }
     Ok(())
+}
+
+fn main(rt: HostRuntime) {
+    let mut names = [0; INPUT_BYTES];
+    let count = read_full(rt.reader(), &mut names);
+    // a write that fails is passed over
+    let _ = show_files(&rt, &names[..count]);
 }

@@ -30,7 +30,8 @@ pub(crate) struct Run {
 }
 
 pub(crate) fn read_load<'a>(input: &mut Cursor<'a>) -> Load<'a>
-    ensures { length input.new.rest.now ≤ length input.old.rest.now - 4 }
+    ensures bounds { (result.words ≤ 2200) × (result.exports ≤ 40) }
+    ensures rest { length input.new.rest.now ≤ length input.old.rest.now - 4 }
 {
     Load {
         name: input.bytes(),
@@ -41,7 +42,8 @@ pub(crate) fn read_load<'a>(input: &mut Cursor<'a>) -> Load<'a>
 }
 
 pub(crate) fn read_run(input: &mut Cursor<'_>) -> Run
-    ensures { length input.new.rest.now ≤ length input.old.rest.now }
+    ensures bound { result.jobs ≤ 90 }
+    ensures rest { length input.new.rest.now ≤ length input.old.rest.now }
 {
     Run {
         f: input.signed(),

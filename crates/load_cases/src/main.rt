@@ -10,8 +10,8 @@ ghost use Rattle.std.specs.Prelude.{◌-◌, ◌≤◌, length, OnOk};
 use crate::case::{Load, Run, read_load, read_run};
 use crate::loaded::LoadNumbers;
 use cases::files::read_file;
-use cases::input::{Cursor, read_start};
-use cases::output::{Hex, Words};
+use cases::input::{Cursor, read_full};
+use cases::output::{Hex, Words, passed_over};
 use engine::Ending;
 use run_lines::{RunAnswer, RunNumbers};
 use sha256::Running;
@@ -57,7 +57,9 @@ fn show_words(rt: &impl Print, words: &[u32]) -> io::Result<()> {
 }
 
 // The words of the table that stand before the base.
-fn before(words: &[u32], base: i32) -> &[u32] {
+fn before(words: &[u32], base: i32) -> &[u32]
+    ensures { length result.now ≤ length words.now }
+{
     let count = usize::try_from(base).unwrap_or(0);
     &words[..count.min(words.len())]
 }
@@ -80,8 +82,9 @@ fn show_load(rt: &(impl Files + Print + AllocGlobal), load: Load<'_>) -> io::Res
     let base = load.base;
     let mut words = filled(rt.alloc(), load.words, 0xA5000000)?;
     let mut exports = filled(rt.alloc(), load.exports, 0xE5000000)?;
-    let file = read_file(rt, load.name, FILE_BYTES)?;
-    let answer = LoadNumbers::from(loader::load(&file, &mut words, base, &mut exports));
+    let mut room = [0; FILE_BYTES];
+    let count = read_file(rt, load.name, &mut room);
+    let answer = LoadNumbers::from(loader::load(&room[..count], &mut words, base, &mut exports));
     println!(rt; "{answer}\nexports{}", Words(&exports))?;
     println!(rt; "before {}", Hex(&digest(before(&words, base))))?;
     show_words(rt, &words)?;
@@ -131,6 +134,7 @@ fn show_cases(rt: &(impl Files + Print + AllocGlobal), bytes: &[u8]) -> io::Resu
 }
 
 fn main(rt: HostRuntime) -> io::Result<()> {
-    let input = read_start(rt.reader(), INPUT_BYTES, rt.alloc())?;
-    show_cases(&rt, &input)
+    let mut bytes = [0; INPUT_BYTES];
+    let count = read_full(rt.reader(), &mut bytes);
+    passed_over(show_cases(&rt, &bytes[..count]))
 }

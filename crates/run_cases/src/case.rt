@@ -1,5 +1,5 @@
 // The cases of the input, and the calls that are made of them.
-ghost use Rattle.std.specs.Prelude.{◌-◌, ◌≤◌, length, OnOk};
+ghost use Rattle.std.specs.Prelude.{◌-◌, ◌≤◌, length, IfOk, OnOk};
 
 use crate::ending::Ending;
 use cases::input::Cursor;
@@ -131,7 +131,9 @@ fn call_of(kind: u32, waiting: u32, steps: u32) -> Call {
 
 // A case of the input: a table, what is asked, and a job table.
 pub(crate) fn read_case(input: &mut Cursor<'_>, alloc: Global) -> Result<Case, AllocError>
-    ensures { OnOk result (length input.new.rest.now ≤ length input.old.rest.now - 4) }
+    ensures bounds { IfOk result (λ case.
+        (length case.tables.words.items ≤ 120) × (length case.tables.jobs.items ≤ 24)) }
+    ensures rest { OnOk result (length input.new.rest.now ≤ length input.old.rest.now - 4) }
 {
     let words = input.table(MOST_WORDS, alloc)?;
     let kind = input.number();

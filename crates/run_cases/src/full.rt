@@ -28,8 +28,8 @@ fn show_d(rt: &(impl Print + AllocGlobal)) -> io::Result<()> {
 // A carry-on of L to L on a job table with this last word, where no job waits.
 fn show_l(rt: &(impl Print + AllocGlobal), last: u32) -> io::Result<()> {
     let mut words = [0, 0, 9, 9];
-    let mut jobs = vec![in rt.alloc(); 0; JOB_WORDS - 1]?;
-    jobs.push(last)?;
+    let mut jobs = vec![in rt.alloc(); 0; JOB_WORDS]?;
+    jobs[JOB_WORDS - 1] = last;
     let answer = engine::carry_on(&mut words, 0, 0, 0, 1, 0, 7, 1, &mut jobs);
     rt.println(RunNumbers::from(answer))
 }

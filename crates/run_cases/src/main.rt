@@ -9,8 +9,8 @@ mod full;
 use crate::case::{Call, Case, Tables, read_case};
 use crate::ending::Ending;
 use crate::full::show_full;
-use cases::input::{Cursor, read_start};
-use cases::output::Words;
+use cases::input::{Cursor, read_full};
+use cases::output::{Words, passed_over};
 use run_lines::{RunAnswer, RunNumbers};
 use std::io;
 
@@ -103,8 +103,13 @@ fn show_cases(rt: &(impl Print + AllocGlobal), bytes: &[u8]) -> io::Result<()> {
     Ok(())
 }
 
+fn show_all(rt: &(impl Print + AllocGlobal), bytes: &[u8]) -> io::Result<()> {
+    show_cases(rt, bytes)?;
+    show_full(rt)
+}
+
 fn main(rt: HostRuntime) -> io::Result<()> {
-    let input = read_start(rt.reader(), INPUT_BYTES, rt.alloc())?;
-    show_cases(&rt, &input)?;
-    show_full(&rt)
+    let mut bytes = [0; INPUT_BYTES];
+    let count = read_full(rt.reader(), &mut bytes);
+    passed_over(show_all(&rt, &bytes[..count]))
 }

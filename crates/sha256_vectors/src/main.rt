@@ -73,21 +73,26 @@ fn show_each_length(rt: &impl Print, m: &[u8]) -> io::Result<()> {
     Ok(())
 }
 
-fn main(rt: HostRuntime) -> io::Result<()> {
-    show_vector(&rt, "empty", sha256::digest(b""))?;
-    show_vector(&rt, "abc", sha256::digest(b"abc"))?;
+fn show_all(rt: &impl Print) -> io::Result<()> {
+    show_vector(rt, "empty", sha256::digest(b""))?;
+    show_vector(rt, "abc", sha256::digest(b"abc"))?;
     show_vector(
-        &rt,
+        rt,
         "448 bits",
         sha256::digest(b"abcdbcdecdefdefgefghfghighijhijkijkljklmklmnlmnomnopnopq"),
     )?;
     show_vector(
-        &rt,
+        rt,
         "896 bits",
         sha256::digest(
             b"abcdefghbcdefghicdefghijdefghijkefghijklfghijklmghijklmnhijklmnoijklmnopjklmnopqklmnopqrlmnopqrsmnopqrstnopqrstu",
         ),
     )?;
-    show_vector(&rt, "million", million())?;
-    show_each_length(&rt, &counted())
+    show_vector(rt, "million", million())?;
+    show_each_length(rt, &counted())
+}
+
+fn main(rt: HostRuntime) {
+    // a write that fails is passed over
+    let _ = show_all(&rt);
 }

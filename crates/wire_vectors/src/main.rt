@@ -122,17 +122,22 @@ fn show_all_holds(rt: &impl Print, s: &[u8], t: &[u8]) -> io::Result<()> {
     Ok(())
 }
 
-fn main(rt: HostRuntime) -> io::Result<()> {
-    show_all_numbers(&rt, BYTES)?;
-    show_spans(&rt, BYTES)?;
-    show_sames(&rt, b"", b"\x00")?;
-    show_sames(&rt, b"\x00\x7f\x80\xff", b"\x00\x7f\x80")?;
-    show_sames(&rt, b"\x00\x7f\x80\xff", b"\x01\x7f\x80\xff")?;
-    show_sames(&rt, b"\x00\x7f\x80\xff", b"\x00\x7f\x80\xfe")?;
-    show_all_holds(&rt, BYTES, b"")?;
-    show_all_holds(&rt, BYTES, b"\xfe")?;
-    show_all_holds(&rt, BYTES, b"\x7f\x80\xff")?;
-    show_all_holds(&rt, BYTES, b"\x7f\x80\xff\xfe")?;
-    show_all_holds(&rt, BYTES, b"\x7f\x80\xff\xfe\x00")?;
-    show_all_holds(&rt, BYTES, BYTES)
+fn show_all(rt: &impl Print) -> io::Result<()> {
+    show_all_numbers(rt, BYTES)?;
+    show_spans(rt, BYTES)?;
+    show_sames(rt, b"", b"\x00")?;
+    show_sames(rt, b"\x00\x7f\x80\xff", b"\x00\x7f\x80")?;
+    show_sames(rt, b"\x00\x7f\x80\xff", b"\x01\x7f\x80\xff")?;
+    show_sames(rt, b"\x00\x7f\x80\xff", b"\x00\x7f\x80\xfe")?;
+    show_all_holds(rt, BYTES, b"")?;
+    show_all_holds(rt, BYTES, b"\xfe")?;
+    show_all_holds(rt, BYTES, b"\x7f\x80\xff")?;
+    show_all_holds(rt, BYTES, b"\x7f\x80\xff\xfe")?;
+    show_all_holds(rt, BYTES, b"\x7f\x80\xff\xfe\x00")?;
+    show_all_holds(rt, BYTES, BYTES)
+}
+
+fn main(rt: HostRuntime) {
+    // a write that fails is passed over
+    let _ = show_all(&rt);
 }
