@@ -6,25 +6,28 @@
     tests/believe.py --text   prints them whole, in the same order
     tests/believe.py --write  writes the lists of docs/TRUST.md anew; what it says of each file stays
 
-To believe are the demands' statements (the records `Demand..`), and whatever a definition to believe names. It stops at the calls' own
-definitions: the theorems say what these do, the contracts that the code equals them; and at definitions that a field of the demands
-determines. Types that are declared in code are named only, and the kit's library is not followed. A second list has what the closing
-records name beyond that: nobody has to believe it. Who calls from C reads crates/answers too.
+To believe are the demands' statements (the records `Demand..`), what the contracts of the calls name, and whatever a definition to believe
+names. It stops at the calls' own definitions: the theorems say what these do, the contracts that the code equals them; and at definitions
+that a field of the demands determines. Types that are declared in code are named only, and the kit's library is not followed. A second list
+has what the closing records name beyond that: nobody has to believe it. Who calls from C reads crates/answers too. What the contract of the
+program's own function names is in none of these lists.
 
-Then the same is asked of pages and definitions that are wrong, each in one way; the test fails if one of them passes.
+Then the same is asked of pages, definitions and sources that are wrong, each in one way; the test fails if one of them passes.
 """
 
 import re
 import sys
 
 import antt
-import guarantees
+import contracts
 
 PAGE = "docs/TRUST.md"
 DEMANDS = "crates/guarantees/specs/Demands.antt"
 CLOSING = "crates/guarantees/specs/Closing.antt"
-# lines of definitions with the comments above and in them, which `--text` prints; a reader can be asked to believe fewer
+# lines of definitions with the comments above and in them, which `--text` prints; a reader can be asked to believe fewer: for the demands,
+# and in all. The 37 lines between are those of refusals/Numbers: a call is refused by a name, and its contract says the name's number
 MOST = 1350
+MOST_IN_ALL = 1387
 # definitions that a field of the demands determines, wherever the demands name them
 FIXED = {
     "wire/Wire": {"big_endian": "Demand2.big_endian"},
@@ -39,22 +42,25 @@ class Closure:
     """The definitions to believe and those of the closing records, in reading order; the calls and fixed definitions where both stop, and
     the declared types that are named."""
 
-    def __init__(self, specs):
-        self.specs = specs
+    def __init__(self, texts):
+        self.specs = specs = antt.Specs({p: t for p, t in texts.items() if re.match(r"crates/\w+/specs/.*\.antt", p)})
+        sources = contracts.Sources(texts)
         self.calls = [self.definition(module, name) for module, names in antt.CALLS.items() for name in names]
         self.fixed = {self.definition(module, name): field for module, names in FIXED.items() for name, field in names.items()}
         self.stops = {*self.calls, *self.fixed}
         for item, field in self.fixed.items():
             self.determines(field, item)
         records = [i for m in specs.order for i in m.items.values() if i.kind == "pub record"]
-        read = self.reached([i for i in records if i.name.startswith("Demand")])
+        demanded = self.reached([i for i in records if i.name.startswith("Demand")])
+        read = demanded | self.reached([i for call in contracts.CALLED for i in sources.named(call, specs)])
         more = self.reached([i for i in records if i.module.path == CLOSING]) - read
-        for_c = self.reached([i for m in specs.order if m.crate == "answers" for i in m.items.values()]) - read - more
+        words = [i for m in specs.order if m.crate == "answers" for i in m.items.values()]
+        for_c = self.reached([*words, *(i for call in contracts.FOR_C for i in sources.named(call, specs))]) - read - more
         known = read | more | for_c
         self.declared = sorted(i for i in known if isinstance(i, str))
         self.calls = [c for c in self.calls if c in known]
         self.fixed = {i: field for i, field in self.fixed.items() if i in known}
-        self.files, self.closing, self.for_c = (self.of_files(items - self.stops) for items in (read, more, for_c))
+        self.files, self.closing, self.for_c, self.demanded = (self.of_files(items - self.stops) for items in (read, more, for_c, demanded))
         self.outside = [m for m in specs.order if set(m.items.values()) - known - self.stops]
 
     def definition(self, module, name):
@@ -89,6 +95,9 @@ class Closure:
 
     def lines(self, comments=True):
         return sum(i.count(comments) for items in self.files.values() for i in items)
+
+    def lines_of_demands(self):
+        return sum(i.count() for items in self.demanded.values() for i in items)
 
     def more_lines(self):
         return sum(i.count() for items in self.closing.values() for i in items)
@@ -151,7 +160,8 @@ class Page:
 def written(page, closure):
     """The page with its lists as the definitions have them."""
     ends = {
-        "read": f"\nIn all {closure.lines():,} lines, {closure.lines(comments=False):,} without the comments.\n",
+        "read": f"\nIn all {closure.lines():,} lines, {closure.lines(comments=False):,} without the comments. "
+        f"The demands come to {closure.lines_of_demands():,} of them; the rest is what the contracts of the calls name beyond these.\n",
         "closing": f"\nIn all {closure.more_lines():,} lines more.\n",
     }
     for name, files in (("read", closure.files), ("closing", closure.closing), ("c", closure.for_c)):
@@ -187,12 +197,14 @@ def differing(page, name, wanted):
     return found
 
 
-def faults(text, specs):
+def faults(text, texts):
     """What is wrong with the page, a line each."""
     found = []
-    closure, page = Closure(specs), Page(text)
-    if closure.lines() >= MOST:
-        found.append(f"{DEMANDS}: {closure.lines():,} lines are to be believed; they have to be fewer than {MOST:,}")
+    closure, page = Closure(texts), Page(text)
+    if closure.lines_of_demands() >= MOST:
+        found.append(f"{DEMANDS}: the demands come to {closure.lines_of_demands():,} lines; they have to be fewer than {MOST:,}")
+    if closure.lines() >= MOST_IN_ALL:
+        found.append(f"{DEMANDS}: {closure.lines():,} lines are to be believed; they have to be fewer than {MOST_IN_ALL:,}")
     for name, files in (("read", closure.files), ("closing", closure.closing)):
         found += differing(page, name, closure.rows(files))
     outside = [str(m) for m in closure.outside]
@@ -210,8 +222,8 @@ def faults(text, specs):
 
 
 def wrong(text, texts):
-    """Pages and definitions that are wrong in one way: a label, the page, the definitions that differ, and a part of what is to be found."""
-    closure, page = Closure(antt.Specs(texts)), Page(text)
+    """Pages, definitions and sources that are wrong in one way: a label, the page, the texts that differ, and a part of what is to be found."""
+    closure, page = Closure(texts), Page(text)
     read, closing, inner, examples = ([f"{line}\n" for line in page.rows(name)] for name in ("read", "closing", "inner", "examples"))
 
     # the page
@@ -249,8 +261,28 @@ def wrong(text, texts):
     for other in ("ℕ", "JobRoomIs"):
         new = demands.replace("pub room_is : RoomIs", f"pub room_is : {other}")
         yield f"{other} for a statement that determines a definition", text, {DEMANDS: new}, "Demand1.room_is does not determine table/Slots"
-    new = record + "ℕ\n" + "  -- more\n" * (MOST - closure.lines())
-    yield "demands that have too many comments", text, {DEMANDS: demands + new}, "lines are to be believed"
+    new = record + "ℕ\n" + "  -- more\n" * (MOST - closure.lines_of_demands())
+    yield "demands that have too many comments", text, {DEMANDS: demands + new}, "the demands come to"
+
+    # what the contracts of the calls name
+    numbers = next(m for m in closure.files if m not in closure.demanded)
+    row = next(row for row in read if row.startswith(f"| {numbers} |"))
+    yield f"{numbers} called inner", text.replace(row, "").replace(inner[0], inner[0] + f"| {numbers} | no |\n"), {}, f"{numbers} is to be read"
+    yield "a type left out", text.replace("`refusals::Refusal`, ", ""), {}, "another order or form"
+    last = "\n".join(closure.files[numbers][-1].lines)
+    new = last.replace(" = ", " = more ", 1)
+    new = f"use {path}.{{{name} as more}}\n{numbers.text.replace(last, new)}"
+    yield f"a definition of {numbers} that names one more", text, {numbers.path: new}, f"{file} "
+    new = numbers.text.replace(last, last + "\n   -- more" * (MOST_IN_ALL - closure.lines()))
+    yield f"too many comments in {numbers}", text, {numbers.path: new}, "lines are to be believed"
+    check, _, contract = contracts.Sources(texts).item("bundle::check")
+    new = texts[check].replace(contract, contract.replace("answer_of result", "answer_of (more result)", 1))
+    new = new.replace("ghost use ", f"ghost use {path}.{{{name} as more}};\nghost use ", 1)
+    yield "a contract that names a definition more", text, {check: new}, f"{file} "
+    new = texts[check].replace(contract, contract.replace("Result<(), Refusal>", "Result<Outline, Refusal>", 1))
+    yield "a call that answers another type", text, {check: new}, "another order or form"
+
+    # of another kind
     for new in ("abbrev more : ℕ", "pub more : ℕ", "pub codata More : Type 0", "module _ where", "pub use Rattle.std.specs.Prelude.{drop}"):
         yield f"'{new}'", text, {DEMANDS: f"{demands}\n{new}\n"}, "of a kind that tests/antt.py does not know"
     new = demands.replace("  pub room_is :", "  room_is :")
@@ -262,9 +294,9 @@ def wrong(text, texts):
     yield "a declaration beside the files", text, {lib: texts[lib] + "abbrev pub more : ℕ\nmore = 0\n"}, "a line that is no 'pub mod'"
 
 
-def print_texts(closure):
+def print_texts(closure, texts):
     """All that is to be read, whole."""
-    tree = guarantees.Tree(guarantees.read())
+    sources = contracts.Sources(texts)
     for title, files in (("", closure.files), ("of the closing records", closure.closing), ("for who calls from C", closure.for_c)):
         if title:
             print(f"\n-- ======== {title}")
@@ -272,12 +304,12 @@ def print_texts(closure):
             print(f"\n-- ==== {module}\n")
             print("\n\n".join("\n".join(i.lines) for i in items))
     print("\n-- ======== the contracts of the calls, and what brings the definitions that they name")
-    for path, names in tree.contracts().items():
+    for path, names in sources.contracts().items():
         print(f"\n-- ==== {path}\n")
-        print("\n".join(tree.brings(path)))
-        print("\n".join(f"\n{tree.contract(name)}" for name in names))
+        print("\n".join(sources.brings(path)))
+        print("\n".join(f"\n{sources.contract(name)}" for name in names))
     print("\n-- ======== types that are declared in code\n")
-    print("\n".join(tree.declared(name) for name in closure.declared))
+    print("\n".join(sources.declared(name) for name in closure.declared))
 
 
 def print_lists(closure):
@@ -290,30 +322,29 @@ def print_lists(closure):
     print("\nthe calls, whose text nobody has to believe\n" + "\n".join(f"    {c}" for c in closure.calls))
     print("\nwhat a field of the demands determines\n" + "\n".join(f"    {i}: {field}" for i, field in closure.fixed.items()))
     print("\ntypes that are declared in code\n" + "\n".join(f"    {d}" for d in closure.declared))
-    count = f"{closure.lines():,} lines, {closure.lines(comments=False):,} without the comments"
+    count = f"{closure.lines():,} lines, {closure.lines(comments=False):,} without the comments; {closure.lines_of_demands():,} for the demands"
     print(f"\n{count}; {closure.more_lines():,} lines of the closing records")
 
 
 def main(arguments):
-    texts = antt.read_specs()
+    texts = antt.read_specs() | contracts.read_sources()
     text = (antt.ROOT / PAGE).read_text()
-    specs = antt.Specs(texts)
-    closure = Closure(specs)
+    closure = Closure(texts)
     if arguments == ["--write"]:
         (antt.ROOT / PAGE).write_text(written(Page(text), closure))
     elif arguments == ["--text"]:
-        print_texts(closure)
+        print_texts(closure, texts)
     elif arguments == ["--list"]:
         print_lists(closure)
     elif arguments:
         raise antt.Fault(f"not understood: {' '.join(arguments)}")
     else:
-        if found := faults(text, specs):
+        if found := faults(text, texts):
             raise antt.Fault("\n".join(found))
         tried = 0
         for label, other, changed, part in wrong(text, texts):
             try:
-                found = "\n".join(faults(other, antt.Specs(texts | changed)))
+                found = "\n".join(faults(other, texts | changed))
             except antt.Fault as fault:
                 found = str(fault)
             if part not in found:

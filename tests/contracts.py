@@ -24,6 +24,8 @@ PUBLIC = {
     "bundle::exports::export_index": "by_number result ≡ index_call GIVEN",
     "listing::list": "(result ≤ length out.new) × (take result out.new ≡ listing GIVEN) × (drop result out.new ≡ drop result out.old)",
 }
+# the calls of README.md's table: all of these but that of the program
+CALLED = [name for name in PUBLIC if name != "listing::list"]
 # the same of the functions that are exported for C
 FOR_C = {
     "arboricx::arboricx_version": "LEFT ≡ version",
@@ -116,6 +118,23 @@ class Sources:
         """The `ghost use` lines of a source file that have a word."""
         return [line for line in re.findall(r"ghost use [^;]*;", self.texts[path]) if word in re.split(r"[\s{},;]+", line)]
 
+    def named(self, name, specs):
+        """What a public contract names, declarations of specs; and the types of its arguments and of its answer that are declared in code."""
+        path, contract = self.item(name)[0], self.contract(name)
+        uses = re.findall(r"^ghost use (Rattle\.\w+\.specs\.[^;]*);", self.texts[path], re.M)
+        scope = antt.module_of(name.partition("::")[0], path, path, "".join(f"use {use}\n" for use in uses))
+        signature, _, says = contract.partition("ensures")
+        return specs.named(scope, says) + [kind for word in re.findall(r"\b[A-Z]\w*", signature) for kind in self.kinds(name, word)]
+
+    def kinds(self, name, word):
+        """The types that a word of a function's signature may be: declared beside the function, or brought by a `use`."""
+        crate, *path = name.split("::")[:-1]
+        paths = ["::".join([crate, *path, word])]
+        for where, words, last in re.findall(r"^use ([\w:]+?)::(?:\{([^}]*)\}|(\w+));", self.texts[self.item(name)[0]], re.M):
+            if word in re.findall(r"\w+", words or last):
+                paths.append(re.sub(r"^crate\b", crate, f"{where}::{word}"))
+        return [kind for kind in paths if re.match(r"(?:pub )?(?:struct|enum) ", (self.item(kind) or ("", 0, ""))[2])]
+
     def brings(self, path):
         """Those that bring the names of its public contracts."""
         words = [word for name in self.contracts()[path] for word in heads(name)]
@@ -138,6 +157,11 @@ class Sources:
                 module = "" if where[2] in ("lib", "main") else where[2].replace("/", "::") + "::"
                 found |= {f"{where[1]}::{module}{name}": path for name in names}
         return found, wrong
+
+
+def read_sources():
+    """The sources of the crates, by their paths."""
+    return {str(p.relative_to(antt.ROOT)): p.read_text() for p in sorted(antt.ROOT.glob("crates/*/src/**/*.rt"))}
 
 
 def heads(name):
@@ -209,15 +233,14 @@ def answer_faults(sources, name, numbers):
 
 
 def readme_faults(text):
-    """The calls of README.md's table are the public ones, but for that of the program. One with no path is where the one before it is."""
+    """The calls of README.md's table are those of CALLED. One with no path is where the one before it is."""
     calls, where = [], ""
     for row in re.findall(r"^\| (`.*?) \|", text.partition("\n## The calls\n")[2].partition("\n## ")[0], re.M):
         for path, name in re.findall(r"`((?:\w+::)*)(\w+)\(", row):
             where = path or where
             calls.append(where + name)
-    public = [name for name in PUBLIC if name != "listing::list"]
-    found = [f"README.md: {call}: is called public, and is none of PUBLIC of tests/contracts.py" for call in calls if call not in public]
-    return found + [f"README.md: {name}: a public call that the table has not" for name in public if name not in calls]
+    found = [f"README.md: {call}: is called public, and is none of PUBLIC of tests/contracts.py" for call in calls if call not in CALLED]
+    return found + [f"README.md: {name}: a public call that the table has not" for name in CALLED if name not in calls]
 
 
 def faults(sources, functions):

@@ -9,7 +9,7 @@ ghost use Rattle.container.specs.Checks.{directory_checks, part_of};
 
 use crate::header::{ENTRY, HEADER, section_count};
 use refusals::Refusal;
-use wire::{Part, number_at};
+use wire::{Part, number_at, or_zero};
 
 // The types of the sections that a bundle has to have: numbers, since a file may have types that nobody here knows.
 const MANIFEST: u64 = 1;
@@ -75,12 +75,12 @@ fn entry_at(file: &[u8], at: usize) -> DirectoryEntry
     let end = at + ENTRY;
     let e = &file[at..end];
     DirectoryEntry {
-        kind: number_at::<4>(e, 0).unwrap_or(0),
-        flags: number_at::<2>(e, 6).unwrap_or(0),
-        compression: number_at::<2>(e, 8).unwrap_or(0),
-        algorithm: number_at::<2>(e, 10).unwrap_or(0),
-        offset: number_at::<8>(e, 12).unwrap_or(0),
-        size: number_at::<8>(e, 20).unwrap_or(0),
+        kind: or_zero(number_at::<4>(e, 0)),
+        flags: or_zero(number_at::<2>(e, 6)),
+        compression: or_zero(number_at::<2>(e, 8)),
+        algorithm: or_zero(number_at::<2>(e, 10)),
+        offset: or_zero(number_at::<8>(e, 12)),
+        size: or_zero(number_at::<8>(e, 20)),
         digest: at + 28,
     }
 }

@@ -8,7 +8,7 @@ ghost use Rattle.container.specs.Checks.{header_checks};
 
 use refusals::Refusal;
 use sizes::Size;
-use wire::number_at;
+use wire::{number_at, or_zero};
 
 // Bytes of the header, and of a directory entry.
 pub(crate) const HEADER: usize = 32;
@@ -22,7 +22,7 @@ const MAJOR: u64 = 1;
 pub(crate) fn section_count(file: &[u8]) -> u64
     ensures { result ≡ section_count file.now }
 {
-    number_at::<4>(file, 12).unwrap_or(0)
+    or_zero(number_at::<4>(file, 12))
 }
 
 // 1: file over 65,536 bytes.
@@ -54,7 +54,7 @@ fn other_magic(file: &[u8]) -> bool
 fn other_major(file: &[u8]) -> bool
     ensures { result ≡ other_major file.now }
 {
-    number_at::<2>(file, 8).unwrap_or(0) != MAJOR
+    or_zero(number_at::<2>(file, 8)) != MAJOR
 }
 
 // 5: section count outside 1 to 16, directory offset not 32, or directory past the end of file.
@@ -64,7 +64,7 @@ fn no_directory(file: &[u8]) -> bool
 {
     let n = section_count(file);
     !Size::SECTIONS.allows(n)
-        || number_at::<8>(file, 24).unwrap_or(0) != HEADER as u64
+        || or_zero(number_at::<8>(file, 24)) != HEADER as u64
         || file.len() < HEADER + ENTRY * n as usize
 }
 

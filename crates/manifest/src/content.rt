@@ -4,7 +4,7 @@ ghost use Rattle.manifest.specs.Content.{root_past, export_past, text_at, hash_a
 
 use manifest_shape::parts::sized_end;
 use sizes::HASH;
-use wire::{number_at, span, span_end};
+use wire::{number_at, or_zero, span, span_end};
 
 // After the root at a position, by its lengths alone: its text was judged once, by the shape (12), and is not judged again.
 #[tactic(auto, unfolding(crate::specs::Content::root_past))]
@@ -51,5 +51,5 @@ pub fn hash_at(s: &[u8], p: Option<usize>) -> &[u8]
 pub fn count_at(s: &[u8], at: usize) -> u64
     ensures { result ≡ count_at s.now at }
 {
-    number_at::<4>(s, at).unwrap_or(0)
+    or_zero(number_at::<4>(s, at))
 }

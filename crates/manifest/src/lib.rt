@@ -9,7 +9,7 @@ use crate::exports::{ExportFault, some_export};
 use crate::strings::strings_agree;
 use manifest_shape::Layout;
 use sizes::Size;
-use wire::number_at;
+use wire::{number_at, or_zero};
 
 pub mod content;
 pub mod exports;
@@ -24,7 +24,7 @@ pub fn unsupported(s: &[u8], l: Layout) -> bool
     !strings_agree(s, l.strings)
         || some_export(s, ExportFault::Abi, l.exports)
         || !Size::CAPABILITIES.allows(count_at(s, l.capabilities))
-        || number_at::<1>(s, l.closure).unwrap_or(0) == 1
+        || or_zero(number_at::<1>(s, l.closure)) == 1
 }
 
 // 14: an export name is empty, over 64 bytes, or used twice.

@@ -4,7 +4,7 @@ ghost use Rattle.nodes.specs.Records.{named_hashes, children_of, record_head, pa
 
 use sha256::Running;
 use sizes::{HASH, Size};
-use wire::{number_at, span, span_end};
+use wire::{number_at, or_zero, span, span_end};
 
 // Where the first record starts: after the count.
 pub(crate) const FIRST_RECORD: usize = 8;
@@ -54,7 +54,7 @@ fn records_end(s: &[u8], n: u64, at: usize) -> Option<usize>
 pub fn count(s: &[u8]) -> u64
     ensures { result ≡ count s.now }
 {
-    number_at::<8>(s, 0).unwrap_or(0)
+    or_zero(number_at::<8>(s, 0))
 }
 
 // Whether the section has the stated shape, with a count within the size.

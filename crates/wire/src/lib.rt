@@ -4,7 +4,7 @@
 #![tactic(auto)]
 
 ghost use Rattle.std.specs.Prelude.{◌≡◌, ◌+◌, ◌≤◌, length, IfSome, OnSome};
-ghost use Rattle.wire.specs.Wire.{big_endian, inside, span_end, span, number_at, holds_at};
+ghost use Rattle.wire.specs.Wire.{big_endian, inside, span_end, span, number_at, holds_at, or_zero};
 
 // A part of a slice: where it starts, and how many bytes it has.
 #[derive(Clone, Copy, Debug, PartialEq, Eq)]
@@ -71,6 +71,13 @@ pub fn number_at<const N: usize>(s: &[u8], at: usize) -> Option<u64>
 {
     let end = span_end(s, at, N)?;
     Some(big_endian(&s[at..end]))
+}
+
+// The number that was read; 0 where there was none.
+pub fn or_zero(read: Option<u64>) -> u64
+    ensures { result ≡ or_zero read }
+{
+    read.unwrap_or(0)
 }
 
 // Whether the byte string t stands in s from at on.

@@ -7,9 +7,9 @@ use Rattle.sizes.proofs.Within.{within_exactly}
 use Rattle.container.proofs.header.no_directory.Goals as goal
 use Rattle.container.proofs.header.no_directory.Goals.{then-not-allows, else-not-allows}
 
-allowed : (c : goal.Else-unwrap_or) → c.allows.result ≡ true
+allowed : (c : goal.Else-or_zero) → c.allows.result ≡ true
 allowed c = elim c.if-not-allows.branch [
-  | then-not-allows w ↦ not-false _ (sym w.value-is ∙ c.if-unwrap_or.false)
+  | then-not-allows w ↦ not-false _ (sym w.value-is ∙ c.if-or_zero.false)
   | else-not-allows w ↦ w.if-not-allows.false
 ]
 
