@@ -6,7 +6,7 @@ use mathlib.Core.List.{List}
 use mathlib.Core.Bool.{false}
 use Rattle.refusals.specs.Refusals.{answer}
 use Rattle.refusals.proofs.Rows.{by_refusal, by_pass}
-use Rattle.refusals.proofs.Outcomes.{told_refusal, told_pass}
+use Rattle.refusals.proofs.Outcomes.{by_result, told_refusal, told_pass}
 use Rattle.lists.proofs.Same.{not_both}
 use Rattle.wire.specs.Wire.{span}
 use Rattle.manifest_shape.specs.declared.Layout.{Layout}
@@ -40,13 +40,13 @@ module _ (file : List ℕ) {x : Result Sections ℕ} (e : x ≡ located file) wh
   pub by_container : {n : ℕ} → x ≡ Err n → Err n ≡ described file
   unfolding located described
   by_container f =
-      let (k, some) = told_refusal (answer (container_checks file)) (sections_of file) e f in
+      let (k, some) = told_refusal by_result (answer (container_checks file)) (sections_of file) e f in
       by_refusal Err (Ok (outline_of file)) (container_first file k some) some
 
   module _ {s : Sections} (f : x ≡ Ok s) where
     at_sections : (answer (container_checks file) ≡ 0) × (s ≡ sections_of file)
     unfolding located
-    at_sections = told_pass (answer (container_checks file)) (sections_of file) e f
+    at_sections = told_pass by_result (answer (container_checks file)) (sections_of file) e f
 
     module _ {m : List ℕ} (g : m ≡ span file s.manifest.start s.manifest.size) {y : Result Layout ℕ}
         (h : y ≡ checked_manifest m) where
@@ -57,14 +57,14 @@ module _ (file : List ℕ) {x : Result Sections ℕ} (e : x ≡ located file) wh
       pub by_manifest : {n : ℕ} → y ≡ Err n → Err n ≡ described file
       unfolding checked_manifest described
       by_manifest i =
-          let (k, some) = told_refusal (answer (manifest_checks m)) (layout_of m) h i in
+          let (k, some) = told_refusal by_result (answer (manifest_checks m)) (layout_of m) h i in
           by_refusal Err (Ok (outline_of file)) (then_manifest file at_sections.0 (rw at_manifest at k)) some
 
       pub all_found : {l : Layout} → y ≡ Ok l →
           Ok (record { manifest = s.manifest; nodes = s.nodes; layout = l }) ≡ described file
       unfolding checked_manifest outline_of described
       all_found i =
-          let (z, k) = told_pass (answer (manifest_checks m)) (layout_of m) h i in
+          let (z, k) = told_pass by_result (answer (manifest_checks m)) (layout_of m) h i in
           rw (at_sections.1, k, at_manifest)
           (by_pass Err (Ok (outline_of file)) (then_manifest file at_sections.0 (rw at_manifest at (sym z))) refl)
 
@@ -72,7 +72,7 @@ module _ (file : List ℕ) {x : Result Sections ℕ} (e : x ≡ located file) wh
 module _ (file : List ℕ) {c : Outline} (e : described file ≡ Ok c) where
   passed_names : (name_refusal file ≡ 0) × (c ≡ outline_of file)
   unfolding described
-  passed_names = told_pass (name_refusal file) (outline_of file) refl e
+  passed_names = told_pass by_result (name_refusal file) (outline_of file) refl e
 
   pub names_passed : name_refusal file ≡ 0
   names_passed = passed_names.0
@@ -96,7 +96,7 @@ module _ (file : List ℕ) {c : Outline} (e : described file ≡ Ok c) where
 module _ (file : List ℕ) {v : Result Outline ℕ} (e : v ≡ described file) where
   pub described_refused : {n : ℕ} → v ≡ Err n → (n ≡ name_refusal file) × (n ≡ 0 → ⊥)
   unfolding described
-  described_refused f = told_refusal (name_refusal file) (outline_of file) e f
+  described_refused f = told_refusal by_result (name_refusal file) (outline_of file) e f
 
   pub by_names : {n : ℕ} → v ≡ Err n → (Err n ≡ judged file) × (refusal file ≡ 0 → ⊥)
   unfolding judged
@@ -135,11 +135,11 @@ module _ (file : List ℕ) {v : Result Outline ℕ} (e : v ≡ described file) w
 module _ (file : List ℕ) {v : Result Outline ℕ} (e : v ≡ judged file) where
   pub judged_refused : {n : ℕ} → v ≡ Err n → (n ≡ refusal file) × (n ≡ 0 → ⊥)
   unfolding judged
-  judged_refused f = told_refusal (refusal file) (outline_of file) e f
+  judged_refused f = told_refusal by_result (refusal file) (outline_of file) e f
 
   passed_all : {c : Outline} → v ≡ Ok c → (refusal file ≡ 0) × (c ≡ outline_of file)
   unfolding judged
-  passed_all f = told_pass (refusal file) (outline_of file) e f
+  passed_all f = told_pass by_result (refusal file) (outline_of file) e f
 
   module _ {c : Outline} (f : v ≡ Ok c) where
     pub judged_passed : refusal file ≡ 0

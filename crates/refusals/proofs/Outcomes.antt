@@ -11,29 +11,41 @@ use Rattle.refusals.specs.declared.Refusal.TheVariants.{FileTooLong, FileTooShor
 use Rattle.refusals.specs.Numbers.{refusal_number, by_number, answer_of}
 use Rattle.refusals.specs.Refusals.{unless_refused}
 
-refused_apart : {A B : Type 0} {i : ℕ} {x : A} → ◌≡◌ {A = Result A ℕ} (Err i) (Ok x) → B
-refused_apart e = let z : ◌≡◌ {A = ℕ} 0 1 = cc in absurd (omega arith)
+-- the two constructors of an outcome's type tell what they were given
+pub record Outcome {A B : Type 0} (refused : ℕ → A) (passed : B → A) : Type 0 where
+  pub number : {i j : ℕ} → refused i ≡ refused j → i ≡ j
+  pub thing : {x y : B} → passed x ≡ passed y → x ≡ y
+  pub apart : {i : ℕ} {x : B} → refused i ≡ passed x → ⊥
 
--- v stands for the outcome, by its number
-module _ {A : Type 0} (n : ℕ) (x : A) {v : Result A ℕ} (e : v ≡ unless_refused n Err (Ok x)) where
-  refused_as : (n ≡ 0 → ⊥) → v ≡ Err n
+-- v stands for the outcome, as the call answered it
+module _ {A B : Type 0} {refused : ℕ → A} {passed : B → A} (o : Outcome refused passed) (n : ℕ) (x : B) {v : A}
+    (e : v ≡ unless_refused n refused (passed x)) where
+  refused_as : (n ≡ 0 → ⊥) → v ≡ refused n
   refused_as z = rw (ne_eqb n 0 z) at e
 
-  passed_as : n ≡ 0 → v ≡ Ok x
+  passed_as : n ≡ 0 → v ≡ passed x
   passed_as z = rw (eq-eqb n 0 z) at e
 
-  pub told_refusal : {k : ℕ} → v ≡ Err k → (k ≡ n) × (k ≡ 0 → ⊥)
+  pub told_refusal : {k : ℕ} → v ≡ refused k → (k ≡ n) × (k ≡ 0 → ⊥)
   told_refusal {k} g = elim (ℕ_discrete n 0) [
-    | yes z ↦ refused_apart (sym g ∙ passed_as z)
-    | no z ↦ let h : ◌≡◌ {A = Result A ℕ} (Err k) (Err n) = sym g ∙ refused_as z in
-        let f : k ≡ n = cc in (f, λ y. z (sym f ∙ y))
+    | yes z ↦ absurd (o.apart (sym g ∙ passed_as z))
+    | no z ↦ let f = o.number (sym g ∙ refused_as z) in (f, λ y. z (sym f ∙ y))
   ]
 
-  pub told_pass : {y : A} → v ≡ Ok y → (n ≡ 0) × (y ≡ x)
+  pub told_pass : {y : B} → v ≡ passed y → (n ≡ 0) × (y ≡ x)
   told_pass {y} g = elim (ℕ_discrete n 0) [
-    | yes z ↦ let h : ◌≡◌ {A = Result A ℕ} (Ok y) (Ok x) = sym g ∙ passed_as z in (z, (cc))
-    | no z ↦ refused_apart (sym (refused_as z) ∙ g)
+    | yes z ↦ (z, o.thing (sym g ∙ passed_as z))
+    | no z ↦ absurd (o.apart (sym (refused_as z) ∙ g))
   ]
+
+-- so do those of a result, by its number
+pub by_result : {A : Type 0} → Outcome {A = Result A ℕ} {B = A} Err Ok
+by_result =
+    record {
+      number = λ e. cc;
+      thing = λ e. cc;
+      apart = λ e. let z : ◌≡◌ {A = ℕ} 0 1 = cc in absurd (omega arith);
+    }
 
 -- no refusal has the number 0
 pub number_some : (r : Refusal) → refusal_number r ≡ 0 → ⊥
