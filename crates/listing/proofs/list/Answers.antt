@@ -1,5 +1,5 @@
 -- What the load answers says which text is put.
-use mathlib.Core.Path.{ap, sym}
+use mathlib.Core.Path.{ap}
 use native.Mathlib.Omega.{arith}
 use Rattle.refusals.specs.Numbers.{by_number}
 use Rattle.text.proofs.Putting.{at_start}
@@ -19,4 +19,4 @@ put_refused-requires c = refused_fits _ _ (omega arith)
 
 pub returns-in-Err : goal.returns-in-Err
 returns-in-Err c =
-    rw (listing_refused _ c.load.ensures (ap by_number c.in-Err.is), sym c.from.ensures) (at_start c.put_refused.ensures)
+    rw (listing_refused _ c.load.ensures (ap by_number c.in-Err.is)) (at_start (rw c.from.ensures at c.put_refused.ensures))

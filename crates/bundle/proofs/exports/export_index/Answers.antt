@@ -1,5 +1,6 @@
 -- The refusal, or what was found.
 use mathlib.Core.Path.{refl, ◌∙◌}
+use native.Mathlib.Omega.{arith}
 use Rattle.refusals.proofs.Outcomes.{handed_on}
 use Rattle.bundle.proofs.Verdicts.{manifest_shape}
 use Rattle.bundle.proofs.ExportWays.{index_refused, index_told}
@@ -12,4 +13,4 @@ pub index_asked-requires : goal.index_asked-requires
 index_asked-requires c = manifest_shape _ c.in_ok-c.ensures refl c.of.ensures
 
 pub returns : goal.returns
-returns c = index_told _ _ c.in_ok-c.ensures refl c.of.ensures c.index_asked.ensures c.ok_or.ensures.value
+returns c = index_told _ _ c.in_ok-c.ensures refl c.of.ensures (grind arith) c.ok_or.ensures.value
