@@ -40,8 +40,9 @@ rm -rf "$kit"
 sed -i -E '/^(target (datalayout|triple)|; ModuleID)/d
     s/"(target-cpu|tune-cpu|target-features)"="[^"]*" ?//g' "$out/module.ll"
 
-# It may know no size of x86-64 either. All places and sizes in it are written in bytes, a pointer that stands alone is never copied as bytes,
-# and none is read or written as a part of a pair, whose places go by its size, but before 64 bits, which come after 8 bytes everywhere.
+# It may know no size of x86-64 either. All places and sizes in it are written in bytes, and no address is a number. A pointer that stands
+# alone is never copied as bytes. None is read or written as a part of a pair, since the places of a pair go by its size; only a pointer
+# with 64 bits after it may be, which lie 8 bytes on everywhere.
 awk '/^define/ { split("", pointer) }
     $3 == "alloca" && $4 == "ptr," { pointer[$1] = 1 }
     $3 == "alloca" && $4 ~ /^[{%<]/ { known = $0 }
