@@ -5,7 +5,7 @@
 use bundle::exports::{export_index, export_name, name_part};
 use cases::files::read_file;
 use cases::input::read_full;
-use cases::output::Hex;
+use cases::output::{BestEffort, Hex};
 use std::rt::Files;
 use std::{fmt, io};
 
@@ -71,13 +71,13 @@ fn show_bundle(rt: &impl Print, name: &[u8], file: &[u8]) -> io::Result<()> {
     show_index(rt, file, b"nobody")
 }
 
-fn show_bundles(rt: &(impl Files + Print), names: &[u8]) -> io::Result<()> {
+fn show_bundles(rt: &impl Files, out: &impl Print, names: &[u8]) -> io::Result<()> {
     let mut room = [0; FILE_BYTES];
     // each program has this loop and the sizes of its own: what it does with a file stands inside
     for line in names.split_inclusive(|byte| *byte == b'\n') {
         let name = line.strip_suffix(b"\n").unwrap_or(line);
         let count = read_file(rt, name, &mut room);
-        show_bundle(rt, name, &room[..count])?;
+        show_bundle(out, name, &room[..count])?;
     }
     Ok(())
 }
@@ -85,6 +85,5 @@ fn show_bundles(rt: &(impl Files + Print), names: &[u8]) -> io::Result<()> {
 fn main(rt: HostRuntime) {
     let mut names = [0; INPUT_BYTES];
     let count = read_full(rt.reader(), &mut names);
-    // a write that fails is passed over
-    let _ = show_bundles(&rt, &names[..count]);
+    let _ = show_bundles(&rt, &BestEffort(&rt), &names[..count]);
 }

@@ -1,10 +1,41 @@
-// How bytes and tables are written, and what is told of a write that fails.
-ghost use Rattle.std.specs.Prelude.{◌≡◌, IfErr};
+// How bytes and tables are written, and what comes of what fails.
+ghost use Rattle.std.specs.Prelude.{◌≡◌, true, is_ok, IfErr};
 ghost use Rattle.std.specs.IoError.{error_kind};
 ghost use Rattle.std.specs.declared.io.ErrorKind.TheVariants.{OutOfMemory};
 
 use std::io::ErrorKind;
 use std::{fmt, io};
+
+// Where a program writes: a write that fails is passed over, so that the next one is tried. No method is inlined, since a line's buffer
+// would lie in the frame of what calls it.
+#[derive(Clone, Copy)]
+pub struct BestEffort<P>(pub P);
+
+impl<P: Print> Print for BestEffort<P> {
+    #[inline(never)]
+    fn print<D: fmt::Display + Drop>(&self, value: D) -> io::Result<()>
+        ensures { is_ok result ≡ true }
+    {
+        let _ = self.0.print(value);
+        Ok(())
+    }
+
+    #[inline(never)]
+    fn println<D: fmt::Display + Drop>(&self, value: D) -> io::Result<()>
+        ensures { is_ok result ≡ true }
+    {
+        let _ = self.0.println(value);
+        Ok(())
+    }
+
+    #[inline(never)]
+    fn write_all(&self, bytes: &[u8]) -> io::Result<()>
+        ensures { is_ok result ≡ true }
+    {
+        let _ = self.0.write_all(bytes);
+        Ok(())
+    }
+}
 
 // Bytes, with two digits for each.
 #[derive(Clone, Copy)]
@@ -32,7 +63,7 @@ impl fmt::Display for Words<'_> {
     }
 }
 
-// What is left to tell of what was shown: a write that fails is passed over, running out of memory is not.
+// What is left to tell of what fails: running out of memory, and nothing else.
 pub fn passed_over(shown: io::Result<()>) -> io::Result<()>
     ensures writes { IfErr result (λ e. (error_kind e ≡ OutOfMemory) × (result ≡ shown)) }
     ensures memory { IfErr shown (λ e. error_kind e ≡ OutOfMemory → result ≡ shown) }

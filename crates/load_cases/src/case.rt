@@ -4,12 +4,12 @@ ghost use Rattle.std.specs.Prelude.{◌≡◌, ◌-◌, ◌≤◌, length};
 use cases::input::Cursor;
 
 // How many words the tables have at most, into which a load writes.
-const MOST_WORDS: u32 = 2200;
+pub(crate) const MOST_WORDS: u32 = 2200;
 
-const MOST_EXPORTS: u32 = 40;
+pub(crate) const MOST_EXPORTS: u32 = 40;
 
 // How many words a run is lent at most for its jobs.
-const MOST_JOB_WORDS: u32 = 90;
+pub(crate) const MOST_JOB_WORDS: u32 = 90;
 
 // A load of the file of that name, into tables of so many words.
 #[derive(Clone, Copy)]

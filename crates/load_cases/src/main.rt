@@ -7,15 +7,14 @@ mod loaded;
 
 ghost use Rattle.std.specs.Prelude.{◌-◌, ◌≤◌, length, OnOk};
 
-use crate::case::{Load, Run, read_load, read_run};
+use crate::case::{Load, MOST_EXPORTS, MOST_JOB_WORDS, MOST_WORDS, Run, read_load, read_run};
 use crate::loaded::LoadNumbers;
 use cases::files::read_file;
 use cases::input::{Cursor, read_full};
-use cases::output::{Hex, Words, passed_over};
+use cases::output::{BestEffort, Hex, Words};
 use engine::Ending;
 use run_lines::{RunAnswer, RunNumbers};
 use sha256::Running;
-use std::alloc::{AllocError, Global};
 use std::io;
 use std::rt::Files;
 
@@ -25,17 +24,20 @@ const INPUT_BYTES: usize = 65_536;
 // Two bytes more than the largest bundle has are read of a file.
 const FILE_BYTES: usize = 65_538;
 
-// The table of a load and of the runs after it, its base, and how many of its slots are used.
+// The table of a load and of the runs after it, its base, and how many of its slots are used. Each table here lies in a fixed array,
+// since the heap may have no memory.
 #[derive(Drop)]
-struct Store {
-    words: Vec<u32>,
+struct Store<'a> {
+    words: &'a mut [u32],
     base: i32,
     used: u32,
 }
 
-// A table with a different word at each place: a number and the index added.
-fn filled(alloc: Global, count: u32, first: u32) -> Result<Vec<u32>, AllocError> {
-    (0..count).map(|i| first.wrapping_add(i)).collect(alloc)
+// Writes a different word at each place of a table: a number and the index added.
+fn fill(table: &mut [u32], first: u32) {
+    for (word, i) in table.iter_mut().zip(0..u32::MAX) {
+        *word = first.wrapping_add(i);
+    }
 }
 
 // The digest of the words, each as four bytes with the highest first.
@@ -77,22 +79,27 @@ fn show_asked(rt: &impl Print, load: Load<'_>) -> io::Result<()> {
     println!(rt; " words {words} base {base} exports {exports}")
 }
 
-fn show_load(rt: &(impl Files + Print + AllocGlobal), load: Load<'_>) -> io::Result<Store> {
-    show_asked(rt, load)?;
-    let base = load.base;
-    let mut words = filled(rt.alloc(), load.words, 0xA5000000)?;
-    let mut exports = filled(rt.alloc(), load.exports, 0xE5000000)?;
+// Answers the used count after the load.
+fn show_load(
+    rt: &impl Files,
+    out: &impl Print,
+    load: Load<'_>,
+    words: &mut [u32],
+) -> io::Result<u32>
+    requires { load.exports ≤ 40 }
+{
+    show_asked(out, load)?;
+    let mut most = [0; MOST_EXPORTS as usize];
+    let exports = &mut most[..load.exports as usize];
+    fill(words, 0xA5000000);
+    fill(exports, 0xE5000000);
     let mut room = [0; FILE_BYTES];
     let count = read_file(rt, load.name, &mut room);
-    let answer = LoadNumbers::from(loader::load(&room[..count], &mut words, base, &mut exports));
-    println!(rt; "{answer}\nexports{}", Words(&exports))?;
-    println!(rt; "before {}", Hex(&digest(before(&words, base))))?;
-    show_words(rt, &words)?;
-    Ok(Store {
-        words,
-        base,
-        used: answer.nodes,
-    })
+    let answer = LoadNumbers::from(loader::load(&room[..count], words, load.base, exports));
+    println!(out; "{answer}\nexports{}", Words(exports))?;
+    println!(out; "before {}", Hex(&digest(before(words, load.base))))?;
+    show_words(out, words)?;
+    Ok(answer.nodes)
 }
 
 // The used count after a run, which a refusal leaves.
@@ -103,38 +110,50 @@ fn used_after(answer: RunAnswer, used: u32) -> u32 {
     }
 }
 
-fn show_run(rt: &(impl Print + AllocGlobal), store: &mut Store, run: Run) -> io::Result<()> {
+fn show_run(rt: &impl Print, store: &mut Store<'_>, run: Run) -> io::Result<()>
+    requires { run.jobs ≤ 90 }
+{
     let Run { f, x, fuel, jobs } = run;
     let used = store.used;
     println!(rt; "run f {f} x {x} used {used} fuel {fuel} jobs {jobs}")?;
-    let mut jobs = filled(rt.alloc(), jobs, 0x0B000000)?;
-    let answer = engine::run(&mut store.words, store.base, f, x, used, fuel, &mut jobs);
+    let mut most = [0; MOST_JOB_WORDS as usize];
+    let jobs = &mut most[..jobs as usize];
+    fill(jobs, 0x0B000000);
+    let answer = engine::run(store.words, store.base, f, x, used, fuel, jobs);
     store.used = used_after(answer, used);
-    println!(rt; "{}\njobs{}", RunNumbers::from(answer), Words(&jobs))?;
-    show_words(rt, &store.words)
+    println!(rt; "{}\njobs{}", RunNumbers::from(answer), Words(jobs))?;
+    show_words(rt, store.words)
 }
 
 // A case: a load, and the runs after it, which their count stands before.
-fn show_case(rt: &(impl Files + Print + AllocGlobal), input: &mut Cursor<'_>) -> io::Result<()>
+fn show_case(rt: &impl Files, out: &impl Print, input: &mut Cursor<'_>) -> io::Result<()>
     ensures { OnOk result (length input.new.rest.now ≤ length input.old.rest.now - 4) }
 {
-    let mut store = show_load(rt, read_load(input))?;
+    let load = read_load(input);
+    let mut most = [0; MOST_WORDS as usize];
+    let words = &mut most[..load.words as usize];
+    let used = show_load(rt, out, load, words)?;
+    let mut store = Store {
+        words,
+        base: load.base,
+        used,
+    };
     for _ in 0..input.number() {
-        show_run(rt, &mut store, read_run(input))?;
+        show_run(out, &mut store, read_run(input))?;
     }
     Ok(())
 }
 
-fn show_cases(rt: &(impl Files + Print + AllocGlobal), bytes: &[u8]) -> io::Result<()> {
+fn show_cases(rt: &impl Files, out: &impl Print, bytes: &[u8]) -> io::Result<()> {
     let mut input = Cursor::new(bytes);
     while !input.is_empty() {
-        show_case(rt, &mut input)?;
+        show_case(rt, out, &mut input)?;
     }
     Ok(())
 }
 
-fn main(rt: HostRuntime) -> io::Result<()> {
+fn main(rt: HostRuntime) {
     let mut bytes = [0; INPUT_BYTES];
     let count = read_full(rt.reader(), &mut bytes);
-    passed_over(show_cases(&rt, &bytes[..count]))
+    let _ = show_cases(&rt, &BestEffort(&rt), &bytes[..count]);
 }

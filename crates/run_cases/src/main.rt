@@ -10,7 +10,7 @@ use crate::case::{Call, Case, Tables, read_case};
 use crate::ending::Ending;
 use crate::full::show_full;
 use cases::input::{Cursor, read_full};
-use cases::output::{Words, passed_over};
+use cases::output::{BestEffort, Words, passed_over};
 use run_lines::{RunAnswer, RunNumbers};
 use std::io;
 
@@ -111,5 +111,5 @@ fn show_all(rt: &(impl Print + AllocGlobal), bytes: &[u8]) -> io::Result<()> {
 fn main(rt: HostRuntime) -> io::Result<()> {
     let mut bytes = [0; INPUT_BYTES];
     let count = read_full(rt.reader(), &mut bytes);
-    passed_over(show_all(&rt, &bytes[..count]))
+    passed_over(show_all(&(BestEffort(&rt), rt.alloc()), &bytes[..count]))
 }

@@ -5,7 +5,7 @@
 ghost use Rattle.std.specs.Prelude.{◌≡◌, ◌≤◌, length};
 ghost use Rattle.sha256_block.specs.Fips180.{sha256};
 
-use cases::output::Hex;
+use cases::output::{BestEffort, Hex};
 use sha256::Running;
 use std::io;
 
@@ -93,6 +93,5 @@ fn show_all(rt: &impl Print) -> io::Result<()> {
 }
 
 fn main(rt: HostRuntime) {
-    // a write that fails is passed over
-    let _ = show_all(&rt);
+    let _ = show_all(&BestEffort(&rt));
 }

@@ -4,7 +4,7 @@
 ghost use Rattle.std.specs.Prelude.{◌<◌, ◌≤◌, length};
 
 use cases::input::read_full;
-use cases::output::Hex;
+use cases::output::{BestEffort, Hex};
 use std::{fmt, io};
 
 // The bytes at which a rule of UTF-8 begins or ends.
@@ -112,6 +112,5 @@ fn show_all(rt: &impl Print, input: &[u8]) -> io::Result<()> {
 fn main(rt: HostRuntime) {
     let mut bytes = [0; INPUT_BYTES];
     let count = read_full(rt.reader(), &mut bytes);
-    // a write that fails is passed over
-    let _ = show_all(&rt, &bytes[..count]);
+    let _ = show_all(&BestEffort(&rt), &bytes[..count]);
 }
