@@ -14,10 +14,10 @@ import antt
 # GIVEN the arguments that the shape does not name itself; all in order
 PUBLIC = {
     "loader::load": "loaded LEFT (by_number result) ≡ load GIVEN",
-    "engine::run_from": "ran LEFT (by_number result) ≡ run_from GIVEN",
-    "engine::run": "ran LEFT (by_number result) ≡ run_from Scratch GIVEN",
-    "engine::carry_on": "ran LEFT (by_number result) ≡ run_from (Stop waiting steps) GIVEN",
-    "plain::run": "played LEFT (by_number result) ≡ plain_run GIVEN",
+    "engine::run_from": "ran LEFT (told_run result) ≡ run_from GIVEN",
+    "engine::run": "ran LEFT (told_run result) ≡ run_from Scratch GIVEN",
+    "engine::carry_on": "ran LEFT (told_run result) ≡ run_from (Stop waiting steps) GIVEN",
+    "plain::run": "played LEFT (told_plain result) ≡ plain_run GIVEN",
     "bundle::check": "answer_of result ≡ refusal GIVEN",
     "bundle::exports::name_part": "LEFT ≡ name_part GIVEN",
     "bundle::exports::export_name": "LEFT.now ≡ name_call GIVEN",
@@ -49,7 +49,9 @@ SOURCES = [
     ("loader/Load", ["loaded"]),
     ("engine/Run", ["ran"]),
     ("engine/declared.From.TheVariants", ["Scratch", "Stop"]),
+    ("engine/Told", ["told_run"]),
     ("plain/Run", ["played"]),
+    ("plain/Told", ["told_plain"]),
     ("refusals/Numbers", ["by_number", "answer_of"]),
     ("listing/Listing", ["listing"]),
     ("sha256_block/Fips180", ["sha256"]),
@@ -144,7 +146,7 @@ class Sources:
         """The text of a struct or an enum of the source."""
         crate, *path, last = name.split("::")
         text = self.texts[f"crates/{crate}/src/{'/'.join(path) or 'lib'}.rt"]
-        return re.search(rf"^(?:pub )?(?:struct|enum) {last} \{{.*?^\}}", text, re.M | re.S)[0]
+        return re.search(rf"^(?:pub )?(?:struct|enum) {last}(?:<[^>]*>)? \{{.*?^\}}", text, re.M | re.S)[0]
 
     def exported(self):
         """The functions that are exported for C, as crate::module::name, and their files."""
@@ -277,7 +279,7 @@ def wrong(texts, sources):
         ("arboricx::arboricx_load", "exports: &mut", "exports: &"),
         ("arboricx::arboricx_export_index", "file.now name.now", "name.now file.now"),
         ("engine::run", "jobs.new", "words.new"),
-        ("engine::run", "(by_number result)", "result"),
+        ("engine::run", "(told_run result)", "result"),
         ("engine::run", "used fuel", "used 0"),
         ("engine::run", "used fuel", "used (fuel - 1)"),
         ("engine::run", "f x used", "f f used"),
@@ -298,7 +300,7 @@ def wrong(texts, sources):
     ):
         yield f"'{new}' in the contract of {name}", other(name, old, new), f"{name}: its contract does not say"
     for path, old, new, name in (
-        ("crates/plain/src/lib.rt", "{ why: Stop, steps: u32, used: u32 }", "{ why: Stop, used: u32, steps: u32 }", "plain::PlainEnding"),
+        ("crates/plain/src/lib.rt", "{ why: W, steps: u32, used: u32 }", "{ why: W, used: u32, steps: u32 }", "plain::PlainEnding"),
         ("crates/engine/src/lib.rt", "        f: i32,\n        x: i32,\n        steps: u32,", "        x: i32,\n        f: i32,\n        steps: u32,", "engine::Ending"),
         ("crates/loader/specs/Answer.antt", "nodes = c.nodes; exports = c.exports", "nodes = c.exports; exports = c.nodes", "loader::Accepted"),
     ):

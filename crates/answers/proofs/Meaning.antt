@@ -29,10 +29,10 @@ run_words_are = (λ i. refl, words)
         (run_numbers a).number
     words w j (Err n) = refl
     words w j (Ok (Done slot steps used)) = rw (add-zero (slot_word slot))
-    words w j (Ok (Stopped why f x steps used waiting)) = rw (zero-add (slot_word f))
+    words w j (Ok (Stopped n f x steps used waiting)) = rw (zero-add (slot_word f))
 
 pub plain_words_are : PlainWordsAre
-plain_words_are = (words, λ w n. refl, λ w i steps used. refl, λ w why steps used. refl)
+plain_words_are = (words, λ w n. refl, λ w i steps used. refl, λ w n steps used. refl)
   where
     words : (w : List ℕ) (a : PlainAnswer) →
         after_plain (played w a) ≡
@@ -40,7 +40,7 @@ plain_words_are = (words, λ w n. refl, λ w i steps used. refl, λ w why steps 
         (plainly.plain_numbers a).number
     words w (Err n) = refl
     words w (Ok (plain.Done slot steps used)) = refl
-    words w (Ok (plain.Stopped why steps used)) = refl
+    words w (Ok (plain.Stopped n steps used)) = refl
 
 pub index_words_are : IndexWordsAre
 index_words_are = (λ n. refl, λ i. refl)

@@ -4,8 +4,6 @@ use Rattle.loader.specs.Accepted.{accepted}
 use Rattle.loader.specs.Load.{loaded}
 use Rattle.engine.specs.Answer.{RunAnswer, run_numbers}
 use Rattle.engine.specs.Run.{ran}
-use Rattle.stepping.specs.declared.stops.Stop.{Stop}
-use Rattle.stepping.specs.Stops.{stops_with}
 use Rattle.plain.specs.declared.PlainEnding.TheVariants.{Done, Stopped}
 use Rattle.plain.specs.Answer.{PlainAnswer}
 use Rattle.plain.specs.Answer as plain
@@ -43,8 +41,7 @@ PlainWordsAre =
     (plain.plain_numbers a).number) ×
     ((w : List ℕ) (n : ℕ) → after_plain (played w (Err n)) ≡ left_one w (n ∷ 0 ∷ 0 ∷ 0 ∷ []) n) ×
     ((w : List ℕ) (i steps used : ℕ) → after_plain (played w (Ok (Done (pos i) steps used))) ≡ left_one w (0 ∷ i ∷ steps ∷ used ∷ []) 0) ×
-    ((w : List ℕ) (why : Stop) (steps used : ℕ) →
-    after_plain (played w (Ok (Stopped why steps used))) ≡ left_one w (stops_with why ∷ 0 ∷ steps ∷ used ∷ []) (stops_with why))
+    ((w : List ℕ) (n steps used : ℕ) → after_plain (played w (Ok (Stopped n steps used))) ≡ left_one w (n ∷ 0 ∷ steps ∷ used ∷ []) n)
 
 -- Of an index by name: a refusal's number and 0, or 0 and the index; the number.
 abbrev pub IndexWordsAre : Type 0

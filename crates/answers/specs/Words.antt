@@ -2,7 +2,6 @@
 use Rattle.std.specs.Prelude.{ℕ, suc, ◌-◌, ◌^◌, List, [], ◌∷◌, ℤ, pos, negsuc, Result, Ok, Err}
 use Rattle.loader.specs.declared.Accepted.{Accepted}
 use Rattle.loader.specs.Answer as load
-use Rattle.stepping.specs.Stops.{stops_with}
 use Rattle.engine.specs.declared.Ending.TheVariants.{Done, Stopped}
 use Rattle.engine.specs.Answer.{RunAnswer}
 use Rattle.plain.specs.declared.PlainEnding.TheVariants as plain
@@ -27,13 +26,13 @@ slot_word (negsuc i) = 2 ^ 32 - suc i
 abbrev pub run_words : RunAnswer → List ℕ
 run_words (Err n) = n ∷ 0 ∷ 0 ∷ 0 ∷ 0 ∷ 0 ∷ []
 run_words (Ok (Done slot steps used)) = 0 ∷ slot_word slot ∷ 0 ∷ steps ∷ used ∷ 0 ∷ []
-run_words (Ok (Stopped why f x steps used waiting)) = stops_with why ∷ slot_word f ∷ slot_word x ∷ steps ∷ used ∷ waiting ∷ []
+run_words (Ok (Stopped n f x steps used waiting)) = n ∷ slot_word f ∷ slot_word x ∷ steps ∷ used ∷ waiting ∷ []
 
 -- number; result slot; steps; used count
 abbrev pub plain_words : PlainAnswer → List ℕ
 plain_words (Err n) = n ∷ 0 ∷ 0 ∷ 0 ∷ []
 plain_words (Ok (plain.Done slot steps used)) = 0 ∷ slot_word slot ∷ steps ∷ used ∷ []
-plain_words (Ok (plain.Stopped why steps used)) = stops_with why ∷ 0 ∷ steps ∷ used ∷ []
+plain_words (Ok (plain.Stopped n steps used)) = n ∷ 0 ∷ steps ∷ used ∷ []
 
 -- number, index
 abbrev pub index_words : Result ℕ ℕ → List ℕ

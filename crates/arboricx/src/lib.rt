@@ -13,7 +13,8 @@ ghost use Rattle.answers.specs.Words.{part_words, version};
 ghost use Rattle.answers.specs.Calls.{left, after_load, after_run, left_one, after_plain, told, after_index};
 
 use answers::{put_index, put_load, put_plain, put_run};
-use engine::From;
+use engine::{Ending, From};
+use plain::PlainEnding;
 
 // The version of the archive, ARBORICX_VERSION of the header.
 #[unsafe(no_mangle)]
@@ -47,7 +48,7 @@ pub extern "C" fn arboricx_load(
         ≡ after_load (load file.now words.old base exports.old) }
 {
     let a = loader::load(file, words, base, exports);
-    put_load(answer, a)
+    put_load(answer, a.map_err(u32::from))
 }
 
 // Runs from scratch or from a stop, and writes the words of the answer. The tables come first, so that they are passed in registers.
@@ -67,7 +68,7 @@ fn run_words(
         ≡ after_run (run_from from words.old base f x used fuel jobs.old) }
 {
     let a = engine::run_from(from, words, base, f, x, used, fuel, jobs);
-    put_run(answer, a)
+    put_run(answer, a.map(Ending::by_number).map_err(u32::from))
 }
 
 // Applies slot f to slot x. The answer: number; result slot or f; x; steps; used count; jobs waiting.
@@ -126,7 +127,7 @@ pub extern "C" fn arboricx_plain_run(
         ≡ after_plain (plain_run words.old base f x used fuel job_room) }
 {
     let a = plain::run(words, base, f, x, used, fuel, job_room);
-    put_plain(answer, a)
+    put_plain(answer, a.map(PlainEnding::by_number).map_err(u32::from))
 }
 
 // The index of the export with a name. The answer: number, index.
@@ -136,7 +137,7 @@ pub extern "C" fn arboricx_export_index(file: &[u8], name: &[u8], answer: &mut [
     ensures { told answer.new result ≡ after_index (index_call file.now name.now) }
 {
     let a = bundle::exports::export_index(file, name);
-    put_index(answer, a)
+    put_index(answer, a.map_err(u32::from))
 }
 
 // The part of the file that is an export's name. The answer: start, length; (0, 0) for the empty part.

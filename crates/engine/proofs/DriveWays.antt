@@ -11,7 +11,7 @@ use Rattle.stepping.specs.declared.State.{State}
 use Rattle.stepping.specs.declared.Turn.{Turn}
 use Rattle.stepping.specs.declared.Turn.TheVariants.{Going, Done, Stopped}
 use Rattle.stepping.specs.declared.stops.Stop.{Stop}
-use Rattle.stepping.specs.declared.stops.Stop.TheVariants as stop
+use Rattle.stepping.specs.Stops.{stops_with}
 use Rattle.engine.specs.declared.Ending.{Ending}
 use Rattle.stepping.specs.Step.{at, step}
 use Rattle.stepping.proofs.Keeps.{LeftBy, slots_below, step_left}
@@ -22,7 +22,7 @@ use Rattle.stepping.specs.Ready.{Runnable, Waits}
 use Rattle.engine.specs.Run.{ran, finished, stopped, resume_as, resume, drive}
 
 -- the fuel is spent
-pub drive_none : (w j : List ℕ) (s : State) (n k : ℕ) (r : Ending) → n ≡ 0 → r ≡ stopped stop.OutOfFuel s k →
+pub drive_none : (w j : List ℕ) (s : State) (n k : ℕ) (r : Ending ℕ) → n ≡ 0 → r ≡ stopped 31 s k →
     ran w j (Ok r) ≡ drive n k w j s
 unfolding drive
 drive_none w j s n k r h e = rw (h, e)
@@ -43,12 +43,12 @@ module _ (w j : List ℕ) (s : State) (w' j' : List ℕ) (t : Turn) (n k : ℕ) 
   pub drive_going : {next : State} → t ≡ Going next → drive (n - 1) (k + 1) w' j' next ≡ drive n k w j s
   drive_going h = (rw add-one) ∙ turned (Going _) h
 
-  module _ (r : Ending) where
+  module _ (r : Ending ℕ) where
     -- is done, or stops
     pub drive_done : {a : Slot} {m used : ℕ} → t ≡ Done a used → m ≡ k + 1 → r ≡ finished a m used → ran w' j' (Ok r) ≡ drive n k w j s
     drive_done h em er = (rw (er, em, add-one)) ∙ turned (Done _ _) h
 
-    pub drive_stopped : {why : Stop} → t ≡ Stopped why → r ≡ stopped why s k → ran w' j' (Ok r) ≡ drive n k w j s
+    pub drive_stopped : {why : Stop} → t ≡ Stopped why → r ≡ stopped (stops_with why) s k → ran w' j' (Ok r) ≡ drive n k w j s
     drive_stopped h er = (rw er) ∙ turned (Stopped _) h
 
 -- the result of a step that may be taken is a slot

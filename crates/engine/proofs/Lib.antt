@@ -4,3 +4,4 @@ pub mod DriveWays
 pub mod AdmissionLaws
 pub mod CallWays
 pub mod Named
+pub mod Told

@@ -16,8 +16,7 @@ use Rattle.stepping.specs.declared.Turn.TheVariants.{Going, Done as IsDone, Stop
 use Rattle.engine.specs.declared.From.{From}
 use Rattle.stepping.specs.Step.{Stepped, at, step}
 use Rattle.stepping.specs.Ready.{Runnable, Waits}
-use Rattle.stepping.specs.declared.stops.Stop.{Stop}
-use Rattle.stepping.specs.declared.stops.Stop.TheVariants as stop
+use Rattle.stepping.specs.Stops.{stops_with}
 use Rattle.engine.specs.Admission.{run_rows}
 use Rattle.engine.specs.Run.{Ran, ran, finished, stopped, resume_as, resume, drive}
 use Rattle.engine.specs.Run.{steps_of, jobs_from, state_from, run_tail, ran_with, run_from}
@@ -34,8 +33,8 @@ Names (ran w j a) = RunSlotsUsed a
 finished_named : (w : List ℕ) (t : Slot) (k used : ℕ) → SlotsPass w used → t.0 < used → RunSlotsUsed (Ok (finished t k used))
 finished_named w t k used slots h = (omega (arith, slots.fits, room_most w), (_, refl, h))
 
-stopped_named : (w : List ℕ) (s : State) (why : Stop) (k : ℕ) → Runnable w s → RunSlotsUsed (Ok (stopped why s k))
-stopped_named w s why k r = (omega (arith, r.slots.fits, room_most w), (_, refl, r.f), (_, refl, r.x))
+stopped_named : (w : List ℕ) (s : State) (n k : ℕ) → Runnable w s → RunSlotsUsed (Ok (stopped n s k))
+stopped_named w s n k r = (omega (arith, r.slots.fits, room_most w), (_, refl, r.f), (_, refl, r.x))
 
 -- the loop
 module _ (rest : ℕ → List ℕ → List ℕ → State → Ran)
@@ -44,7 +43,7 @@ module _ (rest : ℕ → List ℕ → List ℕ → State → Ran)
   turn_named : (w' j' : List ℕ) (t : Turn) → LeftBy w' j' t → Names (resume_as rest k s w' j' t)
   turn_named w' j' (Going next) l = all (suc k) w' j' next l.0 l.1
   turn_named w' j' (IsDone t used) l = finished_named w' t (suc k) used l.0 l.1
-  turn_named w' j' (IsStopped why) l = stopped_named w s why k r
+  turn_named w' j' (IsStopped why) l = stopped_named w s (stops_with why) k r
 
   resume_named : (t : Stepped) → Left t → Names (resume rest k s t)
   resume_named (at w' j' t) l = turn_named w' j' t l
@@ -52,7 +51,7 @@ module _ (rest : ℕ → List ℕ → List ℕ → State → Ran)
 drive_named : (n k : ℕ) (w j : List ℕ) (s : State) → Runnable w s → Waits j s.used s.waiting →
     Names (drive n k w j s)
 unfolding drive
-drive_named zero k w j s r h = stopped_named w s stop.OutOfFuel k r
+drive_named zero k w j s r h = stopped_named w s 31 k r
 drive_named (suc n) k w j s r h = resume_named (drive n) (drive_named n) k w s r (step w j s) (step_keeps w j s r h)
 
 -- the call

@@ -1,6 +1,5 @@
 -- Cases of carry-ons on the two tables, one statement over one list.
 use Rattle.std.specs.Prelude.{ℕ, ◌≡◌, List, [], ◌∷◌, map, replicate, ℤ, pos, negsuc, Ok}
-use Rattle.stepping.specs.declared.stops.Stop.TheVariants.{OutOfSlots}
 use Rattle.engine.specs.declared.Ending.TheVariants.{Done, Stopped}
 use Rattle.engine.specs.declared.From.TheVariants.{Stop}
 use Rattle.engine.specs.Run.{run_from}
@@ -130,6 +129,6 @@ CarryCasesHold = map carry_given carry_cases ≡ map carry_wanted carry_cases
 abbrev pub CarryAnswersHold : Type 0
 CarryAnswersHold =
     -- D to D after stop 32 with one more slot: stop 32, f is stem L and x is D, 11 steps, 10 used slots, 2 jobs
-    (run_answer_of (run_from (Stop 2 7) (table (in_seven (replicate 2 9))) (pos 2) (pos 0) (pos 5) 9 93 (3 ∷ 5 ∷ 0 ∷ 3 ∷ 8 ∷ 0 ∷ [])) ≡ Ok (Stopped OutOfSlots (pos 1) (pos 5) 11 10 2)) ×
+    (run_answer_of (run_from (Stop 2 7) (table (in_seven (replicate 2 9))) (pos 2) (pos 0) (pos 5) 9 93 (3 ∷ 5 ∷ 0 ∷ 3 ∷ 8 ∷ 0 ∷ [])) ≡ Ok (Stopped 32 (pos 1) (pos 5) 11 10 2)) ×
     -- a job of each tag: the last slot made, 25 steps, 9 used slots
     (run_answer_of (run_from (Stop 3 20) (other (replicate 8 9)) (pos 2) (pos 1) (pos 2) 5 40 three_wait) ≡ Ok (Done (pos 8) 25 9))

@@ -1,6 +1,5 @@
 -- Cases of document 01 on the two tables, and further ones, one statement over one list.
 use Rattle.std.specs.Prelude.{ℕ, ◌≡◌, List, [], ◌∷◌, map, replicate, ℤ, pos, negsuc, Ok}
-use Rattle.stepping.specs.declared.stops.Stop.TheVariants.{OutOfSlots}
 use Rattle.engine.specs.declared.Ending.TheVariants.{Done, Stopped}
 use Rattle.engine.specs.declared.From.TheVariants.{Scratch}
 use Rattle.engine.specs.Run.{Ran, ran, run_from}
@@ -144,6 +143,6 @@ run_answer_of (ran w j a) = a
 abbrev pub AnswersHold : Type 0
 AnswersHold =
     -- D to D with 3 free slots: stop 32, f is L and x is D, 7 steps, 9 used slots, 2 jobs
-    (run_answer_of (run_from Scratch (table (replicate 6 9)) (pos 2) (pos 5) (pos 5) 6 100 (replicate 6 8)) ≡ Ok (Stopped OutOfSlots (pos 0) (pos 5) 7 9 2)) ×
+    (run_answer_of (run_from Scratch (table (replicate 6 9)) (pos 2) (pos 5) (pos 5) 6 100 (replicate 6 8)) ≡ Ok (Stopped 32 (pos 0) (pos 5) 7 9 2)) ×
     -- L to L: the new slot, 1 step, 7 used slots
     (run_answer_of (run_from Scratch (table (replicate 3 9)) (pos 2) (pos 0) (pos 0) 6 100 (replicate 2 8)) ≡ Ok (Done (pos 6) 1 7))

@@ -13,7 +13,7 @@ UsedSlot used z = (i : ℕ) × (z ≡ pos i) × (i < used)
 abbrev pub RunSlotsUsed : RunAnswer → Type 0
 RunSlotsUsed (Err n) = Unit {0}
 RunSlotsUsed (Ok (Done slot steps used)) = (used ≤ max_slots) × UsedSlot used slot
-RunSlotsUsed (Ok (Stopped why f x steps used waiting)) = (used ≤ max_slots) × UsedSlot used f × UsedSlot used x
+RunSlotsUsed (Ok (Stopped n f x steps used waiting)) = (used ≤ max_slots) × UsedSlot used f × UsedSlot used x
 
 -- Every slot that a run or a carry-on answers is a used one, so that it may be handed back as f or x.
 abbrev pub SlotsNamed : Type 0

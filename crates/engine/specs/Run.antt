@@ -8,8 +8,7 @@ use Rattle.frames.specs.Frames.{cleared}
 use Rattle.stepping.specs.declared.State.{State}
 use Rattle.stepping.specs.declared.Turn.{Turn}
 use Rattle.stepping.specs.declared.Turn.TheVariants.{Going, Done as IsDone, Stopped as IsStopped}
-use Rattle.stepping.specs.declared.stops.Stop.{Stop as Why}
-use Rattle.stepping.specs.declared.stops.Stop.TheVariants as stop
+use Rattle.stepping.specs.Stops.{stops_with}
 use Rattle.stepping.specs.Step.{Stepped, at, step}
 use Rattle.engine.specs.declared.From.{From}
 use Rattle.engine.specs.declared.From.TheVariants.{Scratch, Stop}
@@ -22,11 +21,11 @@ use Rattle.engine.specs.Admission.{run_rows}
 pub data Ran : Type 0 where
   ran : List ℕ → List ℕ → RunAnswer → Ran
 
-abbrev pub finished : Slot → ℕ → ℕ → Ending
+abbrev pub finished : Slot → ℕ → ℕ → Ending ℕ
 finished t steps used = Done (pos t.0) steps used
 
-abbrev pub stopped : Why → State → ℕ → Ending
-stopped why s steps = Stopped why (pos s.f.0) (pos s.x.0) steps s.used s.waiting
+abbrev pub stopped : ℕ → State → ℕ → Ending ℕ
+stopped n s steps = Stopped n (pos s.f.0) (pos s.x.0) steps s.used s.waiting
 
 -- ---- the loop
 
@@ -34,14 +33,14 @@ stopped why s steps = Stopped why (pos s.f.0) (pos s.x.0) steps s.used s.waiting
 abbrev pub resume_as : (ℕ → List ℕ → List ℕ → State → Ran) → ℕ → State → List ℕ → List ℕ → Turn → Ran
 resume_as rest k s w j (Going next) = rest (suc k) w j next
 resume_as rest k s w j (IsDone t used) = ran w j (Ok (finished t (suc k) used))
-resume_as rest k s w j (IsStopped why) = ran w j (Ok (stopped why s k))
+resume_as rest k s w j (IsStopped why) = ran w j (Ok (stopped (stops_with why) s k))
 
 abbrev pub resume : (ℕ → List ℕ → List ℕ → State → Ran) → ℕ → State → Stepped → Ran
 resume rest k s (at w j t) = resume_as rest k s w j t
 
 -- the fuel left, the steps so far, both tables and the state
 unfoldable pub drive : ℕ → ℕ → List ℕ → List ℕ → State → Ran
-drive zero k w j s = ran w j (Ok (stopped stop.OutOfFuel s k))
+drive zero k w j s = ran w j (Ok (stopped 31 s k))
 drive (suc n) k w j s = resume (drive n) k s (step w j s)
 
 -- ---- how a run begins

@@ -3,10 +3,11 @@
 #![tactic(auto)]
 
 ghost use Rattle.std.specs.Prelude.{◌≡◌, ◌+◌, ◌<◌, ◌^◌, Ok};
-ghost use Rattle.refusals.specs.Numbers.{by_number};
 ghost use Rattle.table.specs.Limits.{max_slots};
 ghost use Rattle.stepping.specs.Ready.{Runnable, Waits};
+ghost use Rattle.stepping.specs.Stops.{stops_with};
 ghost use Rattle.engine.specs.declared.From.TheVariants.{Scratch, Stop};
+ghost use Rattle.engine.specs.Told.{run_by_number, told_run};
 ghost use Rattle.engine.specs.Run.{ran, finished, stopped, drive, steps_of, waiting_of, jobs_from, run_tail, run_from};
 
 use crate::admission::refusal;
@@ -19,9 +20,9 @@ use table::slots::Slot;
 
 pub mod admission;
 
-// How a run that was let start ends; specs/Answer.antt gives the paper's numbers for each case.
+// How a run that was let start ends; specs/Answer.antt gives the paper's numbers for each case. W says why it stopped: C gets a number.
 #[derive(Clone, Copy, Debug, PartialEq, Eq)]
-pub enum Ending {
+pub enum Ending<W = stops::Stop> {
     Done {
         slot: i32,
         steps: u32,
@@ -29,13 +30,39 @@ pub enum Ending {
     },
     // With the f and x still to be applied and how many frames wait.
     Stopped {
-        why: stops::Stop,
+        why: W,
         f: i32,
         x: i32,
         steps: u32,
         used: u32,
         waiting: u32,
     },
+}
+
+impl Ending {
+    // The same with a stop by its number.
+    pub fn by_number(self) -> Ending<u32>
+        ensures { result ≡ run_by_number self }
+    {
+        match self {
+            Ending::Done { slot, steps, used } => Ending::Done { slot, steps, used },
+            Ending::Stopped {
+                why,
+                f,
+                x,
+                steps,
+                used,
+                waiting,
+            } => Ending::Stopped {
+                why: u32::from(why),
+                f,
+                x,
+                steps,
+                used,
+                waiting,
+            },
+        }
+    }
 }
 
 // How a run begins. Of an Option, `None` would not say that it is from scratch.
@@ -72,7 +99,7 @@ pub(crate) struct Request {
 // The answer of a run that is done with a slot.
 fn finished(slot: Slot, steps: u32, used: u32) -> Ending
     requires { slot.0 < max_slots }
-    ensures { result ≡ finished slot steps used }
+    ensures { run_by_number result ≡ finished slot steps used }
 {
     Ending::Done {
         slot: slot.number(),
@@ -84,7 +111,7 @@ fn finished(slot: Slot, steps: u32, used: u32) -> Ending
 // The answer of a run that stops before it is done.
 fn stopped(why: stops::Stop, s: State, steps: u32) -> Ending
     requires { (s.f.0 < max_slots) × (s.x.0 < max_slots) }
-    ensures { result ≡ stopped why s steps }
+    ensures { run_by_number result ≡ stopped (stops_with why) s steps }
 {
     Ending::Stopped {
         why,
@@ -103,7 +130,7 @@ fn stopped(why: stops::Stop, s: State, steps: u32) -> Ending
 fn drive(words: &mut [u32], jobs: &mut [u32], start: State, fuel: Fuel) -> Ending
     requires { Runnable words.old start × Waits jobs.old start.used start.waiting
         × (fuel.left + fuel.spent < 2 ^ 32) }
-    ensures { ran words.new jobs.new (Ok result)
+    ensures { ran words.new jobs.new (Ok (run_by_number result))
         ≡ drive fuel.left fuel.spent words.old jobs.old start }
 {
     // a `while`, since a range up to the end would count beside what is spent, and a step is paid by the fuel alone
@@ -139,7 +166,7 @@ fn begin(from: From, jobs: &mut [u32]) -> u32
 // The run on the part of the table that is ours.
 #[tactic(auto, unfolding(crate::specs::Run::run_tail))]
 fn run_tail(words: &mut [u32], jobs: &mut [u32], asked: Request) -> Result<Ending, Refusal>
-    ensures { ran words.new jobs.new (by_number result)
+    ensures { ran words.new jobs.new (told_run result)
         ≡ run_tail asked.from words.old asked.f asked.x asked.used asked.fuel jobs.old }
 {
     refusal(words, jobs, asked)?;
@@ -166,7 +193,7 @@ pub fn run_from(
     fuel: u32,
     jobs: &mut [u32],
 ) -> Result<Ending, Refusal>
-    ensures { ran words.new jobs.new (by_number result)
+    ensures { ran words.new jobs.new (told_run result)
         ≡ run_from from words.old base f x used fuel jobs.old }
 {
     let asked = Request {
@@ -192,7 +219,7 @@ pub fn run(
     fuel: u32,
     jobs: &mut [u32],
 ) -> Result<Ending, Refusal>
-    ensures { ran words.new jobs.new (by_number result)
+    ensures { ran words.new jobs.new (told_run result)
         ≡ run_from Scratch words.old base f x used fuel jobs.old }
 {
     run_from(From::Scratch, words, base, f, x, used, fuel, jobs)
@@ -211,7 +238,7 @@ pub fn carry_on(
     fuel: u32,
     jobs: &mut [u32],
 ) -> Result<Ending, Refusal>
-    ensures { ran words.new jobs.new (by_number result)
+    ensures { ran words.new jobs.new (told_run result)
         ≡ run_from (Stop waiting steps) words.old base f x used fuel jobs.old }
 {
     run_from(

@@ -18,8 +18,6 @@ use Rattle.frames.proofs.SoundFrames.{frames_sound_lem}
 use Rattle.stepping.specs.declared.State.{State}
 use Rattle.stepping.specs.declared.Turn.TheVariants.{Going, Done as IsDone, Stopped as IsStopped}
 use Rattle.stepping.specs.declared.Turn.{Turn}
-use Rattle.stepping.specs.Stops.{stops_with}
-use Rattle.stepping.proofs.StopNumbers.{stop_range}
 use Rattle.engine.specs.declared.Ending.TheVariants.{Done, Stopped}
 use Rattle.stepping.specs.Step.{Stepped, at, step}
 use Rattle.engine.specs.Admission.{slot_rows, from_rows, run_rows}
@@ -40,7 +38,7 @@ use Rattle.guarantees.proofs.SameSteps.{SameWords, SameFrames, StaysAs, Stays, f
 abbrev EndsAs : List ℕ → RunAnswer → Ran → Type 0
 EndsAs v (Ok (Done slot steps used)) (ran v' k a) = (a ≡ Ok (Done slot steps used)) × SameSlots used v v'
 EndsAs v (Err n) r = Unit {0}
-EndsAs v (Ok (Stopped why f x steps used waiting)) r = Unit {0}
+EndsAs v (Ok (Stopped n f x steps used waiting)) r = Unit {0}
 
 abbrev Ends : Ran → Ran → Type 0
 Ends (ran v k a) r = EndsAs v a r
@@ -154,9 +152,9 @@ module _ (w v j k : List ℕ) (a : RunAnswer) (z : (run_numbers a).number ≡ 0)
   ended_done : (b : RunAnswer) → a ≡ b → Ended (ran v k b) → IsDoneRun
   ended_done (Err n) e h = absurd h
   ended_done (Ok (Done slot steps used)) e h = (slot, steps, used, e)
-  ended_done (Ok (Stopped why f x steps used waiting)) e h =
-      let q : stops_with why ≡ 0 = sym (ap (λ (x : RunAnswer). (run_numbers x).number) e) ∙ z in
-      absurd (omega (arith, (stop_range why).0))
+  ended_done (Ok (Stopped n f x steps used waiting)) e h =
+      let q : n ≡ 0 = sym (ap (λ (x : RunAnswer). (run_numbers x).number) e) ∙ z in
+      absurd (omega (arith, h.0))
 
   done_is : {A B C D : Type 0} {r : Ran} → RunVerdict w j A B C D r → r ≡ ran v k a → IsDoneRun
   done_is (out o) e = not_refused 21 (omega arith) e

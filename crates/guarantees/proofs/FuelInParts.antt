@@ -17,7 +17,6 @@ use Rattle.table.specs.Slots.{room}
 use Rattle.frames.specs.Frames.{frame_room}
 use Rattle.frames.proofs.SoundFrames.{standing_sound}
 use Rattle.stepping.specs.declared.State.{State}
-use Rattle.stepping.specs.declared.stops.Stop.TheVariants.{OutOfFuel}
 use Rattle.engine.specs.declared.Ending.TheVariants.{Stopped}
 use Rattle.stepping.specs.Step.{Stepped, step}
 use Rattle.engine.specs.Admission.{max_steps}
@@ -138,13 +137,13 @@ pub no_fuel_keeps : NoFuelKeeps
 unfolding drive
 no_fuel_keeps waiting k₀ w v j k base f x used a e go =
     let (s, _) = begun (Stop waiting k₀) w v j k base f x used 0 a go e in
-    let h : ran (take s.at w ++ drop s.at w) j (Ok (Stopped OutOfFuel (pos s.f_slot) (pos s.x_slot) k₀ used waiting)) ≡ ran v k a
+    let h : ran (take s.at w ++ drop s.at w) j (Ok (Stopped 31 (pos s.f_slot) (pos s.x_slot) k₀ used waiting)) ≡ ran v k a
     = sym (drives s 0 s.few) ∙ e
     in
     let p : take s.at w ++ drop s.at w ≡ v = cc in
-    let q : Ok (Stopped OutOfFuel (pos s.f_slot) (pos s.x_slot) k₀ used waiting) ≡ a = cc in
+    let q : Ok (Stopped 31 (pos s.f_slot) (pos s.x_slot) k₀ used waiting) ≡ a = cc in
     let i : j ≡ k = cc in
-    let named : Stopped OutOfFuel f x k₀ used waiting ≡ Stopped OutOfFuel (pos s.f_slot) (pos s.x_slot) k₀ used waiting
+    let named : Stopped 31 f x k₀ used waiting ≡ Stopped 31 (pos s.f_slot) (pos s.x_slot) k₀ used waiting
     = cc (s.f_is, s.x_is)
     in
     (sym q ∙ ap Ok (sym named), sym p ∙ take-append-drop s.at w, sym i)

@@ -9,8 +9,6 @@ use native.Mathlib.Omega.{arith}
 use borrow.Author.Tests.{le-leb}
 use Rattle.plain.specs.declared.PlainEnding.TheVariants.{Done, Stopped}
 use Rattle.std.specs.Prelude.{Ok, Err}
-use Rattle.stepping.specs.Stops.{stops_with}
-use Rattle.stepping.proofs.StopNumbers.{stop_range, one_stop}
 use Rattle.plain.specs.Answer.{PlainAnswer, PlainNumbers, plain_numbers}
 use Rattle.plain.specs.Run.{Played, played, plain_run}
 use Rattle.plain.specs.Meaning.{Shown, shown}
@@ -25,8 +23,7 @@ use Rattle.guarantees.proofs.PlainVerdict.{Goes, plain_verdict}
 goes_started : (r : Played) → Goes r → let-start (shown r).answer.number ≡ true
 goes_started (played w (Err n)) h = absurd h
 goes_started (played w (Ok (Done slot steps used))) h = refl
-goes_started (played w (Ok (Stopped why steps used))) h =
-    let (low, high) = stop_range why in rw (le-leb 31 (stops_with why) low, le-leb (stops_with why) 33 high, or-true)
+goes_started (played w (Ok (Stopped n steps used))) h = rw (le-leb 31 n h.0, le-leb n 33 h.1, or-true)
 
 not_started : (w : List ℕ) (n : ℕ) → let-start n ≡ false → (r : Played) → Goes r → shown r ≡ refused n w → ⊥
 not_started w n z r h e =
@@ -60,7 +57,7 @@ Telling (played w a) = PlainTells a
 goes_tells : (r : Played) → Goes r → Telling r
 goes_tells (played w (Err n)) h = absurd h
 goes_tells (played w (Ok (Done slot steps used))) h = h
-goes_tells (played w (Ok (Stopped why steps used))) h = stop_range why
+goes_tells (played w (Ok (Stopped n steps used))) h = h
 
 tells : {w : List ℕ} {r : Played} → Goes r ⊎ ((n : ℕ) × (r ≡ played w (Err n)) × Listed 49 n) → Telling r
 tells {r = r} (inl h) = goes_tells r h
@@ -77,7 +74,7 @@ plain_one_answer (Err n) (Err m) h g e = ap (λ (i : ℕ). Err i) (number_same e
 plain_one_answer (Ok (Done s k u)) (Ok (Done s' k' u')) h g e =
     cc (ap (λ (x : PlainNumbers). x.slot) e, ap (λ (x : PlainNumbers). x.steps) e, ap (λ (x : PlainNumbers). x.used) e)
 plain_one_answer (Ok (Stopped n k u)) (Ok (Stopped n' k' u')) h g e =
-    cc (one_stop n n' (number_same e), ap (λ (x : PlainNumbers). x.steps) e, ap (λ (x : PlainNumbers). x.used) e)
+    cc (number_same e, ap (λ (x : PlainNumbers). x.steps) e, ap (λ (x : PlainNumbers). x.used) e)
 plain_one_answer (Err n) (Ok (Done s k u)) h g e = absurd (listed_above {last = 49} (omega arith) h (number_same e))
 plain_one_answer (Err n) (Ok (Stopped m k u)) h g e = absurd (listed_apart {last = 49} (omega arith) h g (number_same e))
 plain_one_answer (Ok (Done s k u)) (Err n) h g e = absurd (listed_above {last = 49} (omega arith) g (sym (number_same e)))

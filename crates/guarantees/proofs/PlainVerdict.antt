@@ -8,6 +8,7 @@ use lib.IntN.{ℤ}
 use Rattle.std.specs.Prelude.{Err, Ok}
 use Rattle.engine.specs.declared.From.TheVariants.{Scratch}
 use Rattle.engine.specs.declared.Ending.TheVariants as run
+use Rattle.plain.specs.declared.PlainEnding.TheVariants.{Done, Stopped}
 use Rattle.engine.specs.Run.{Ran, ran, run_from}
 use Rattle.plain.specs.Answer.{PlainAnswer}
 use Rattle.plain.specs.Run.{Played, played, plain_run}
@@ -19,10 +20,11 @@ use Rattle.guarantees.specs.Plain.{TooDeep}
 use Rattle.guarantees.proofs.PlainTwin.{lent, lent_room, deep_or_not}
 use Rattle.guarantees.proofs.Verdict.{Ended, Verdict, out, misplaced, damaged, at_last, started, Judged, verdict}
 
--- the answer is an ending
+-- the answer is done, or a stop with a stop's number
 abbrev GoesAs : PlainAnswer → Type 0
 GoesAs (Err n) = ⊥
-GoesAs (Ok e) = Unit {0}
+GoesAs (Ok (Done slot steps used)) = Unit {0}
+GoesAs (Ok (Stopped n steps used)) = (31 ≤ n) × (n ≤ 33)
 
 abbrev pub Goes : Played → Type 0
 Goes (played w a) = GoesAs a

@@ -6,7 +6,6 @@ use mathlib.Core.List.{List}
 use mathlib.Core.Logic.{◌⊎◌, inl, inr}
 use native.Mathlib.Omega.{arith}
 use Rattle.std.specs.Prelude.{Ok, Err}
-use Rattle.stepping.proofs.StopNumbers.{stop_range, one_stop}
 use Rattle.engine.specs.declared.Ending.TheVariants.{Done, Stopped}
 use Rattle.engine.specs.Run.{Ran, ran}
 use Rattle.engine.specs.Answer.{RunAnswer, RunNumbers, run_numbers}
@@ -32,7 +31,7 @@ Telling (ran w j a) = Tells a
 ended_tells : (r : Ran) → Ended r → Telling r
 ended_tells (ran w j (Err n)) h = absurd h
 ended_tells (ran w j (Ok (Done slot steps used))) h = h
-ended_tells (ran w j (Ok (Stopped why f x steps used waiting))) h = stop_range why
+ended_tells (ran w j (Ok (Stopped n f x steps used waiting))) h = h
 
 tells : {w j : List ℕ} {r : Ran} → Ended r ⊎ ((n : ℕ) × (r ≡ ran w j (Err n)) × Listed 40 n) → Telling r
 tells {r = r} (inl h) = ended_tells r h
@@ -49,9 +48,9 @@ pub one_answer : OneAnswer
 one_answer (Err n) (Err m) h g e = ap Err (number_same e)
 one_answer (Ok (Done s k u)) (Ok (Done s' k' u')) h g e =
     cc (ap (λ (x : RunNumbers). x.slot) e, ap (λ (x : RunNumbers). x.steps) e, ap (λ (x : RunNumbers). x.used) e)
-one_answer (Ok (Stopped why f x k u w)) (Ok (Stopped why' f' x' k' u' w')) h g e =
+one_answer (Ok (Stopped n f x k u w)) (Ok (Stopped n' f' x' k' u' w')) h g e =
     cc (
-      one_stop why why' (number_same e),
+      number_same e,
       ap (λ (x : RunNumbers). x.f) e,
       ap (λ (x : RunNumbers). x.x) e,
       ap (λ (x : RunNumbers). x.steps) e,
@@ -59,8 +58,8 @@ one_answer (Ok (Stopped why f x k u w)) (Ok (Stopped why' f' x' k' u' w')) h g e
       ap (λ (x : RunNumbers). x.waiting) e,
     )
 one_answer (Err n) (Ok (Done s k u)) h g e = absurd (listed_above {last = 40} (omega arith) h (number_same e))
-one_answer (Err n) (Ok (Stopped why f x k u w)) h g e = absurd (listed_apart {last = 40} (omega arith) h g (number_same e))
+one_answer (Err n) (Ok (Stopped m f x k u w)) h g e = absurd (listed_apart {last = 40} (omega arith) h g (number_same e))
 one_answer (Ok (Done s k u)) (Err n) h g e = absurd (listed_above {last = 40} (omega arith) g (sym (number_same e)))
-one_answer (Ok (Done s k u)) (Ok (Stopped why f x k' u' w)) h g e = let q = number_same e in absurd (omega (arith, g.0, q))
-one_answer (Ok (Stopped why f x k u w)) (Err n) h g e = absurd (listed_apart {last = 40} (omega arith) g h (sym (number_same e)))
-one_answer (Ok (Stopped why f x k u w)) (Ok (Done s k' u')) h g e = let q = number_same e in absurd (omega (arith, h.0, q))
+one_answer (Ok (Done s k u)) (Ok (Stopped m f x k' u' w)) h g e = let q = number_same e in absurd (omega (arith, g.0, q))
+one_answer (Ok (Stopped m f x k u w)) (Err n) h g e = absurd (listed_apart {last = 40} (omega arith) g h (sym (number_same e)))
+one_answer (Ok (Stopped m f x k u w)) (Ok (Done s k' u')) h g e = let q = number_same e in absurd (omega (arith, h.0, q))

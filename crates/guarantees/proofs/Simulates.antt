@@ -34,9 +34,7 @@ use Rattle.table.proofs.HoldsLaws.{zero_leaf, from_kept, from_append, untouched_
 use Rattle.table.proofs.HoldsLaws.{untouched_kept}
 use Rattle.stepping.specs.declared.State.{State}
 use Rattle.stepping.specs.declared.Turn.TheVariants.{Going, Done as IsDone, Stopped as IsStopped}
-use Rattle.stepping.specs.declared.stops.Stop.{Stop as Why}
-use Rattle.stepping.specs.declared.stops.Stop.TheVariants as why
-use Rattle.stepping.specs.Stops as stops
+use Rattle.stepping.specs.declared.stops.Stop.TheVariants.{OutOfSlots, OutOfPlaces}
 use Rattle.stepping.specs.Rules.{SlotAction, Make, Give, Go, Push, slot_rule, on_function, on_fork, on_argument}
 use Rattle.stepping.specs.Step.{Stepped, at, beside, meet_frame, meet, carry, step}
 use Rattle.engine.specs.Run.{Ran, ran, resume, drive}
@@ -208,8 +206,8 @@ pub data Turns (w j : List ℕ) (s : State) : Stepped → machine.MachineTurn �
   turns_done : {v k : List ℕ} {a : Slot} {used : ℕ} {made : List Tree} {t : Tree}
       → used ≡ s.used + length made → Leaves w s.used j v used k made 0 → Holds v used a.0 t
       → Turns w j s (at v k (IsDone a used)) (machine.done made t)
-  turns_no_slot : Turns w j s (at w j (IsStopped why.OutOfSlots)) (machine.stop out_of_slots)
-  turns_no_place : Turns w j s (at w j (IsStopped why.OutOfPlaces)) (machine.stop out_of_places)
+  turns_no_slot : Turns w j s (at w j (IsStopped OutOfSlots)) (machine.stop out_of_slots)
+  turns_no_place : Turns w j s (at w j (IsStopped OutOfPlaces)) (machine.stop out_of_places)
 
 -- a frame at place k, the last, is written or goes, and slot f is to be applied to slot x
 module _ {w : List ℕ} {n f x : ℕ} {ft xt : Tree} (good : SlotsPass w n) (hf : Holds w n f ft) (hx : Holds w n x xt)
@@ -334,17 +332,15 @@ module _ {w j v k : List ℕ} {n m steps : ℕ} {made : List Tree} (e : m ≡ n 
   stop_agrees d hf hx stand l = rw (e, d) (agrees_stop (rw e at hf) (rw e at hx) (rw e at stand) (rw (e, d) at l))
 
 -- a run that stops here, with the number of the machine's stop
-stops_here : (w j : List ℕ) (s : State) (p : machine.MachineState) → Sim w j s p → (mine : Why) (why : Stop) →
-    stops.stops_with mine ≡ stop_number why → (k : ℕ) →
-    Comes w s.used j (ran w j (Ok (engine.stopped mine s k))) (later k (machine.halted why p))
-stops_here w j s p sim mine why e k =
-    let n = s.used in
+stops_here : (w j : List ℕ) (s : State) (p : machine.MachineState) → Sim w j s p → (n : ℕ) (why : Stop) → n ≡ stop_number why → (k : ℕ) →
+    Comes w s.used j (ran w j (Ok (engine.stopped n s k))) (later k (machine.halted why p))
+stops_here w j s p sim n why e k =
     let d : s.waiting ≡ length (reverse p.frames)
-    = omega (arith, length-reverse p.frames, frames_count w n j s.waiting p.frames sim.frames)
+    = omega (arith, length-reverse p.frames, frames_count w s.used j s.waiting p.frames sim.frames)
     in
     rw (add-zero k, e)
-    (stop_agrees (omega arith) d sim.f sim.x (frames_turned w n j s.waiting p.frames sim.frames)
-    (leaves_here j (grown_none w n) sim.slots (omega (arith, held_below sim.f)) sim.fits sim.above))
+    (stop_agrees (omega arith) d sim.f sim.x (frames_turned w s.used j s.waiting p.frames sim.frames)
+    (leaves_here j (grown_none w s.used) sim.slots (omega (arith, held_below sim.f)) sim.fits sim.above))
 
 -- a step that has made these nodes, and what the run after it leaves and comes to
 module _ (w j v k : List ℕ) (n m : ℕ) (made : List Tree) (grown : Grown w n v m made) (long : length k ≡ length j) where
@@ -401,13 +397,13 @@ module _ (fuel : ℕ) (drives : DriveSimulates fuel) (k : ℕ) (w j : List ℕ) 
       (comes_on w j v i s.used next.used made grown long (drive fuel (suc k) v i next) (later (suc k) o)
       (drives (suc k) v i next q sim'))
   resumes c t (turns_done e l h) = rw (← add-one k) (done_agrees e h l)
-  resumes c t turns_no_slot = stops_here w j s p sim why.OutOfSlots out_of_slots refl k
-  resumes c t turns_no_place = stops_here w j s p sim why.OutOfPlaces out_of_places refl k
+  resumes c t turns_no_slot = stops_here w j s p sim 32 out_of_slots refl k
+  resumes c t turns_no_place = stops_here w j s p sim 33 out_of_places refl k
 
 -- a run on the two tables is the machine's
 pub drive_simulates : (fuel : ℕ) → DriveSimulates fuel
 unfolding drive machine.run
-drive_simulates zero k w j s p sim = stops_here w j s p sim why.OutOfFuel out_of_fuel refl k
+drive_simulates zero k w j s p sim = stops_here w j s p sim 31 out_of_fuel refl k
 drive_simulates (suc fuel) k w j s p sim =
     resumes fuel (drive_simulates fuel) k w j s p sim (step w j s)
     (machine.machine_step (room w - s.used) (frame_room j) p) (steps w j s p sim)

@@ -22,7 +22,6 @@ use Rattle.frames.proofs.SoundFrames.{frames_sound_lem}
 use Rattle.stepping.specs.declared.State.{State}
 use Rattle.stepping.specs.declared.Turn.{Turn}
 use Rattle.stepping.specs.declared.Turn.TheVariants.{Going, Done as IsDone, Stopped as IsStopped}
-use Rattle.stepping.specs.Stops.{stops_with}
 use Rattle.stepping.proofs.StopNumbers.{stop_range}
 use Rattle.engine.specs.declared.Ending.TheVariants.{Done, Stopped}
 use Rattle.stepping.specs.Step.{Stepped, at, step}
@@ -38,10 +37,11 @@ use Rattle.guarantees.specs.Run.{Misplaced, negative, not_used, Damaged, JobsDam
 
 -- ---- a run that starts is not refused
 
--- the answer is an ending
+-- the answer is done, or a stop with a stop's number
 abbrev EndedAs : RunAnswer → Type 0
 EndedAs (Err n) = ⊥
-EndedAs (Ok e) = Unit {0}
+EndedAs (Ok (Done slot steps used)) = Unit {0}
+EndedAs (Ok (Stopped n f x steps used waiting)) = (31 ≤ n) × (n ≤ 33)
 
 abbrev pub Ended : Ran → Type 0
 Ended (ran w j a) = EndedAs a
@@ -53,9 +53,7 @@ Unrefused (ran w j a) = let-start (run_numbers a).number ≡ true
 pub unrefused : (r : Ran) → Ended r → Unrefused r
 unrefused (ran w j (Err n)) h = absurd h
 unrefused (ran w j (Ok (Done slot steps used))) h = refl
-unrefused (ran w j (Ok (Stopped why f x steps used waiting))) h =
-    let (low, high) = stop_range why in
-    rw (le-leb 31 (stops_with why) low, le-leb (stops_with why) 33 high, or-true)
+unrefused (ran w j (Ok (Stopped n f x steps used waiting))) h = rw (le-leb 31 n h.0, le-leb n 33 h.1, or-true)
 
 behind_ended : (before : List ℕ) (r : Ran) → Ended r → Ended (ran_with before r)
 behind_ended before (ran w j a) h = h
@@ -65,14 +63,14 @@ module _ (rest : ℕ → List ℕ → List ℕ → State → Ran)
   turn_ended : (w j : List ℕ) (t : Turn) → Ended (resume_as rest k s w j t)
   turn_ended w j (Going next) = goes (suc k) w j next
   turn_ended w j (IsDone a used) = tt
-  turn_ended w j (IsStopped why) = tt
+  turn_ended w j (IsStopped why) = stop_range why
 
   resume_ended : (t : Stepped) → Ended (resume rest k s t)
   resume_ended (at w j t) = turn_ended w j t
 
 pub drive_ended : (fuel k : ℕ) (w j : List ℕ) (s : State) → Ended (drive fuel k w j s)
 unfolding drive
-drive_ended zero k w j s = tt
+drive_ended zero k w j s = (omega arith, omega arith)
 drive_ended (suc n) k w j s = resume_ended (drive n) (drive_ended n) k s (step w j s)
 
 -- ---- which slots are misplaced

@@ -2,7 +2,6 @@
 use Rattle.std.specs.Prelude.{ℕ, ◌+◌, ◌≤◌, ◌≡◌, true, cond, List, [], ◌∷◌, ◌⊎◌, eqb, ℤ, Ok}
 use Rattle.engine.specs.Run.{Ran, ran, run_from}
 use Rattle.engine.specs.declared.From.{From}
-use Rattle.stepping.specs.declared.stops.Stop.TheVariants.{OutOfFuel}
 use Rattle.engine.specs.declared.Ending.TheVariants.{Stopped}
 use Rattle.engine.specs.declared.From.TheVariants.{Stop}
 use Rattle.engine.specs.Answer.{RunAnswer, RunNumbers, run_numbers}
@@ -52,4 +51,4 @@ abbrev pub NoFuelKeeps : Type 0
 NoFuelKeeps =
     (waiting steps : ℕ) (w v j k : List ℕ) (base f x : ℤ) (used : ℕ) (a : RunAnswer)
     → run_from (Stop waiting steps) w base f x used 0 j ≡ ran v k a → started (run_numbers a).number ≡ true
-    → (a ≡ Ok (Stopped OutOfFuel f x steps used waiting)) × (v ≡ w) × (k ≡ j)
+    → (a ≡ Ok (Stopped 31 f x steps used waiting)) × (v ≡ w) × (k ≡ j)

@@ -6,7 +6,6 @@ use Rattle.calculus.specs.BigStep.{Costs}
 use Rattle.table.specs.Slots.{room}
 use Rattle.table.specs.Sound.{SoundSlots}
 use Rattle.table.specs.Holds.{Holds}
-use Rattle.stepping.specs.Stops.{stops_with}
 use Rattle.plain.specs.declared.PlainEnding.TheVariants.{Done, Stopped}
 use Rattle.plain.specs.Answer.{PlainAnswer, plain_numbers}
 use Rattle.plain.specs.Run.{played, plain_run}
@@ -68,7 +67,7 @@ PlainDoneExactly =
 abbrev pub PlainTells : PlainAnswer → Type 0
 PlainTells (Err n) = Listed 49 n
 PlainTells (Ok (Done slot steps used)) = Unit {0}
-PlainTells (Ok (Stopped why steps used)) = (31 ≤ stops_with why) × (stops_with why ≤ 33)
+PlainTells (Ok (Stopped n steps used)) = (31 ≤ n) × (n ≤ 33)
 
 abbrev pub PlainNumberTells : PlainCall → Type 0
 PlainNumberTells call =

@@ -11,7 +11,6 @@ use Rattle.table.specs.Sound.{SoundSlot, SoundSlots}
 use Rattle.table.specs.Holds.{Holds}
 use Rattle.frames.specs.Stand.{StandFrom, ZeroFrom}
 use Rattle.frames.specs.SoundFrames.{SoundJobs}
-use Rattle.stepping.specs.Stops.{stops_with}
 use Rattle.engine.specs.declared.Ending.TheVariants.{Done, Stopped}
 use Rattle.engine.specs.Run.{Ran, ran, run_from}
 use Rattle.engine.specs.declared.From.{From}
@@ -94,7 +93,7 @@ RefusalKeeps =
 abbrev pub Tells : RunAnswer → Type 0
 Tells (Err n) = Listed 40 n
 Tells (Ok (Done slot steps used)) = Unit {0}
-Tells (Ok (Stopped why f x steps used waiting)) = (31 ≤ stops_with why) × (stops_with why ≤ 33)
+Tells (Ok (Stopped n f x steps used waiting)) = (31 ≤ n) × (n ≤ 33)
 
 abbrev pub NumberTells : Type 0
 NumberTells =

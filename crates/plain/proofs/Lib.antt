@@ -4,3 +4,4 @@ pub mod PlainIsRun
 pub mod Named
 pub mod TooDeep
 pub mod Cases
+pub mod Told

@@ -9,7 +9,7 @@ use Rattle.plain.specs.Run.{played, plain_run}
 abbrev pub PlainSlotUsed : PlainAnswer → Type 0
 PlainSlotUsed (Err n) = Unit {0}
 PlainSlotUsed (Ok (Done slot steps used)) = (used ≤ max_slots) × UsedSlot used slot
-PlainSlotUsed (Ok (Stopped why steps used)) = Unit {0}
+PlainSlotUsed (Ok (Stopped n steps used)) = Unit {0}
 
 -- A result's slot is a used one, so that it may be handed back as f or x.
 abbrev pub PlainSlotNamed : Type 0

@@ -4,6 +4,7 @@ use Rattle.lists.specs.Lists.{any_of}
 use Rattle.refusals.specs.Refusals.{Row, ◌when◌, answer, unless_refused}
 use Rattle.table.specs.Base.{from_base}
 use Rattle.table.specs.Slots.{named_slot}
+use Rattle.stepping.specs.Stops.{stops_with}
 use Rattle.engine.specs.Admission.{slot_rows}
 use Rattle.applying.specs.Apply.{Applied, Came, came, apply}
 use Rattle.plain.specs.declared.PlainEnding.{PlainEnding}
@@ -15,9 +16,9 @@ pub data Played : Type 0 where
   played : List ℕ → PlainAnswer → Played
 
 -- the steps are the fuel less what is left of it
-abbrev pub ended_by : ℕ → Applied → PlainEnding
+abbrev pub ended_by : ℕ → Applied → PlainEnding ℕ
 ended_by fuel (Ok (t, p)) = Done (pos t.0) (fuel - p.left) p.used
-ended_by fuel (Err h) = Stopped h.why (fuel - h.at.left) h.at.used
+ended_by fuel (Err h) = Stopped (stops_with h.why) (fuel - h.at.left) h.at.used
 
 abbrev pub answered : ℕ → Came → Played
 answered fuel (came w a) = played w (Ok (ended_by fuel a))

@@ -2,9 +2,10 @@
 #![tactic(auto)]
 
 ghost use Rattle.std.specs.Prelude.{◌≡◌};
-ghost use Rattle.refusals.specs.Numbers.{by_number, answer_of};
+ghost use Rattle.refusals.specs.Numbers.{answer_of};
 ghost use Rattle.refusals.specs.Refusals.{answer};
 ghost use Rattle.applying.specs.Fit.{Ends};
+ghost use Rattle.plain.specs.Told.{plain_by_number, told_plain};
 ghost use Rattle.plain.specs.Run.{played, ended_by, too_deep, plain_rows, plain_tail, plain_run};
 
 use applying::{Halt, Progress, apply};
@@ -14,11 +15,28 @@ use stepping::stops::Stop;
 use table::base::base_of;
 use table::slots::Slot;
 
-// How a plain run that was let start ends; specs/Answer.antt gives the paper's numbers for each case.
+// How a plain run that was let start ends; specs/Answer.antt gives the paper's numbers for each case. W says why it stopped, as of an
+// Ending.
 #[derive(Clone, Copy, Debug, PartialEq, Eq)]
-pub enum PlainEnding {
+pub enum PlainEnding<W = Stop> {
     Done { slot: i32, steps: u32, used: u32 },
-    Stopped { why: Stop, steps: u32, used: u32 },
+    Stopped { why: W, steps: u32, used: u32 },
+}
+
+impl PlainEnding {
+    // The same with a stop by its number.
+    pub fn by_number(self) -> PlainEnding<u32>
+        ensures { result ≡ plain_by_number self }
+    {
+        match self {
+            PlainEnding::Done { slot, steps, used } => PlainEnding::Done { slot, steps, used },
+            PlainEnding::Stopped { why, steps, used } => PlainEnding::Stopped {
+                why: u32::from(why),
+                steps,
+                used,
+            },
+        }
+    }
 }
 
 // What is asked of a plain run on our part of the table: f to be applied to x, how many slots are used, an allowance of steps, and
@@ -35,7 +53,7 @@ struct Request {
 // By an application that began with so much fuel.
 fn ended_by(fuel: u32, end: Result<(Slot, Progress), Halt>) -> PlainEnding
     requires { Ends fuel end }
-    ensures { result ≡ ended_by fuel end }
+    ensures { plain_by_number result ≡ ended_by fuel end }
 {
     match end {
         Ok((t, p)) => PlainEnding::Done {
@@ -77,7 +95,7 @@ fn refusal(words: &[u32], asked: Request) -> Result<(), Refusal>
 // The plain run on the part of the table that is ours.
 #[tactic(auto, unfolding(crate::specs::Run::plain_tail))]
 fn plain_tail(words: &mut [u32], asked: Request) -> Result<PlainEnding, Refusal>
-    ensures { played words.new (by_number result) ≡ plain_tail words.old asked.f asked.x asked.used asked.fuel asked.places }
+    ensures { played words.new (told_plain result) ≡ plain_tail words.old asked.f asked.x asked.used asked.fuel asked.places }
 {
     refusal(words, asked)?;
     let p = Progress {
@@ -107,7 +125,7 @@ pub fn run(
     fuel: u32,
     places: u32,
 ) -> Result<PlainEnding, Refusal>
-    ensures { played words.new (by_number result) ≡ plain_run words.old base f x used fuel places }
+    ensures { played words.new (told_plain result) ≡ plain_run words.old base f x used fuel places }
 {
     let asked = Request {
         f,

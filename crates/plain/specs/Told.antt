@@ -1,0 +1,32 @@
+-- A plain run's answer by numbers: what the function answers has names for a refusal and for a stop.
+use Rattle.std.specs.Prelude.{ℕ, ◌≡◌, ℤ, Result, Ok, Err}
+use Rattle.refusals.specs.declared.Refusal.{Refusal}
+use Rattle.refusals.specs.Numbers.{refusal_number, by_number}
+use Rattle.stepping.specs.declared.stops.Stop.{Stop}
+use Rattle.stepping.specs.declared.stops.Stop.TheVariants.{OutOfFuel, OutOfSlots, OutOfPlaces}
+use Rattle.stepping.specs.Stops.{stops_with}
+use Rattle.plain.specs.declared.PlainEnding.{PlainEnding}
+use Rattle.plain.specs.declared.PlainEnding.TheVariants.{Done, Stopped}
+use Rattle.plain.specs.Answer.{PlainAnswer}
+
+abbrev pub plain_by_number : PlainEnding Stop → PlainEnding ℕ
+plain_by_number (Done slot steps used) = Done slot steps used
+plain_by_number (Stopped why steps used) = Stopped (stops_with why) steps used
+
+abbrev pub told_plain : Result (PlainEnding Stop) Refusal → PlainAnswer
+told_plain (Ok e) = Ok (plain_by_number e)
+told_plain (Err r) = Err (refusal_number r)
+
+-- Each answer with document 01's numbers: only why it stopped and what it is refused with have names.
+abbrev pub PlainTold : Type 0
+PlainTold =
+    ((slot : ℤ) (steps used : ℕ) → told_plain (Ok (Done slot steps used)) ≡ Ok (Done slot steps used)) ×
+    ((steps used : ℕ) →
+    (told_plain (Ok (Stopped OutOfFuel steps used)) ≡ Ok (Stopped 31 steps used)) ×
+    (told_plain (Ok (Stopped OutOfSlots steps used)) ≡ Ok (Stopped 32 steps used)) ×
+    (told_plain (Ok (Stopped OutOfPlaces steps used)) ≡ Ok (Stopped 33 steps used))) ×
+    ((r : Refusal) → told_plain (Err r) ≡ by_number (Err r))
+
+-- no two endings have the same numbers
+abbrev pub PlainToldOnce : Type 0
+PlainToldOnce = (a b : PlainEnding Stop) → plain_by_number a ≡ plain_by_number b → a ≡ b
