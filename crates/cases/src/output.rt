@@ -6,29 +6,37 @@ ghost use Rattle.std.specs.declared.io.ErrorKind.TheVariants.{OutOfMemory};
 use std::io::ErrorKind;
 use std::{fmt, io};
 
-// Where a program writes: a write that fails is passed over, so that the next one is tried. No method is inlined, since a line's buffer
-// would lie in the frame of what calls it.
+// Where a program writes: a write that fails is passed over, so that the next one is tried. What is printed goes out piece by piece, each
+// by a write of its own, so that no more of a line is missing than what failed.
 #[derive(Clone, Copy)]
 pub struct BestEffort<P>(pub P);
 
-impl<P: Print> Print for BestEffort<P> {
-    #[inline(never)]
+impl<P: Print> fmt::Write for BestEffort<&P> {
+    fn write_str(&mut self, piece: &str) -> fmt::Result
+        ensures { is_ok result ≡ true }
+    {
+        let _ = self.0.write_all(piece.as_bytes());
+        Ok(())
+    }
+}
+
+impl<P: Print> Print for BestEffort<&P> {
     fn print<D: fmt::Display + Drop>(&self, value: D) -> io::Result<()>
         ensures { is_ok result ≡ true }
     {
-        let _ = self.0.print(value);
+        let _ = fmt::Formatter::new(BestEffort(self.0)).write(value);
         Ok(())
     }
 
-    #[inline(never)]
     fn println<D: fmt::Display + Drop>(&self, value: D) -> io::Result<()>
         ensures { is_ok result ≡ true }
     {
-        let _ = self.0.println(value);
+        let mut pieces = fmt::Formatter::new(BestEffort(self.0));
+        let _ = pieces.write(value);
+        let _ = pieces.write("\n");
         Ok(())
     }
 
-    #[inline(never)]
     fn write_all(&self, bytes: &[u8]) -> io::Result<()>
         ensures { is_ok result ≡ true }
     {
