@@ -20,11 +20,10 @@ told_run (Err r) = Err (refusal_number r)
 -- Each answer with document 01's numbers: only why it stopped and what it is refused with have names.
 abbrev pub RunTold : Type 0
 RunTold =
-    ((slot : ℤ) (steps used : ℕ) → told_run (Ok (Done slot steps used)) ≡ Ok (Done slot steps used)) ×
-    ((f x : ℤ) (steps used waiting : ℕ) →
-    (told_run (Ok (Stopped OutOfFuel f x steps used waiting)) ≡ Ok (Stopped 31 f x steps used waiting)) ×
-    (told_run (Ok (Stopped OutOfSlots f x steps used waiting)) ≡ Ok (Stopped 32 f x steps used waiting)) ×
-    (told_run (Ok (Stopped OutOfPlaces f x steps used waiting)) ≡ Ok (Stopped 33 f x steps used waiting))) ×
+    ((slot : ℤ) (steps used : ℕ) → run_by_number (Done slot steps used) ≡ Done slot steps used) ×
+    ((why : Stop) (f x : ℤ) (steps used waiting : ℕ) → run_by_number (Stopped why f x steps used waiting) ≡ Stopped (stops_with why) f x steps used waiting) ×
+    ((stops_with OutOfFuel ≡ 31) × (stops_with OutOfSlots ≡ 32) × (stops_with OutOfPlaces ≡ 33)) ×
+    ((e : Ending Stop) → told_run (Ok e) ≡ Ok (run_by_number e)) ×
     ((r : Refusal) → told_run (Err r) ≡ by_number (Err r))
 
 -- no two endings have the same numbers

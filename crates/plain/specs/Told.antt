@@ -20,11 +20,10 @@ told_plain (Err r) = Err (refusal_number r)
 -- Each answer with document 01's numbers: only why it stopped and what it is refused with have names.
 abbrev pub PlainTold : Type 0
 PlainTold =
-    ((slot : ℤ) (steps used : ℕ) → told_plain (Ok (Done slot steps used)) ≡ Ok (Done slot steps used)) ×
-    ((steps used : ℕ) →
-    (told_plain (Ok (Stopped OutOfFuel steps used)) ≡ Ok (Stopped 31 steps used)) ×
-    (told_plain (Ok (Stopped OutOfSlots steps used)) ≡ Ok (Stopped 32 steps used)) ×
-    (told_plain (Ok (Stopped OutOfPlaces steps used)) ≡ Ok (Stopped 33 steps used))) ×
+    ((slot : ℤ) (steps used : ℕ) → plain_by_number (Done slot steps used) ≡ Done slot steps used) ×
+    ((why : Stop) (steps used : ℕ) → plain_by_number (Stopped why steps used) ≡ Stopped (stops_with why) steps used) ×
+    ((stops_with OutOfFuel ≡ 31) × (stops_with OutOfSlots ≡ 32) × (stops_with OutOfPlaces ≡ 33)) ×
+    ((e : PlainEnding Stop) → told_plain (Ok e) ≡ Ok (plain_by_number e)) ×
     ((r : Refusal) → told_plain (Err r) ≡ by_number (Err r))
 
 -- no two endings have the same numbers
