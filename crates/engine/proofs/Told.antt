@@ -6,7 +6,7 @@ use Rattle.engine.specs.declared.Ending.TheVariants.{Done, Stopped}
 use Rattle.engine.specs.Told.{RunTold, RunToldOnce}
 
 pub run_told : RunTold
-run_told = (λ slot steps used. refl, λ why f x steps used waiting. refl, (refl, refl, refl), λ e. refl, λ r. refl)
+run_told = (λ slot steps used. refl, λ why f x steps used waiting. refl, λ e. refl, λ r. refl)
 
 pub run_told_once : RunToldOnce
 run_told_once (Done slot steps used) (Done slot' steps' used') e = cc e

@@ -3,7 +3,6 @@ use Rattle.std.specs.Prelude.{ℕ, ◌≡◌, ℤ, Result, Ok, Err}
 use Rattle.refusals.specs.declared.Refusal.{Refusal}
 use Rattle.refusals.specs.Numbers.{refusal_number, by_number}
 use Rattle.stepping.specs.declared.stops.Stop.{Stop}
-use Rattle.stepping.specs.declared.stops.Stop.TheVariants.{OutOfFuel, OutOfSlots, OutOfPlaces}
 use Rattle.stepping.specs.Stops.{stops_with}
 use Rattle.engine.specs.declared.Ending.{Ending}
 use Rattle.engine.specs.declared.Ending.TheVariants.{Done, Stopped}
@@ -17,12 +16,12 @@ abbrev pub told_run : Result (Ending Stop) Refusal → RunAnswer
 told_run (Ok e) = Ok (run_by_number e)
 told_run (Err r) = Err (refusal_number r)
 
--- Each answer with document 01's numbers: only why it stopped and what it is refused with have names.
+-- An answer stays what it is, but that its refusal or its stop becomes a number (StopsAre of stepping).
 abbrev pub RunTold : Type 0
 RunTold =
     ((slot : ℤ) (steps used : ℕ) → run_by_number (Done slot steps used) ≡ Done slot steps used) ×
-    ((why : Stop) (f x : ℤ) (steps used waiting : ℕ) → run_by_number (Stopped why f x steps used waiting) ≡ Stopped (stops_with why) f x steps used waiting) ×
-    ((stops_with OutOfFuel ≡ 31) × (stops_with OutOfSlots ≡ 32) × (stops_with OutOfPlaces ≡ 33)) ×
+    ((why : Stop) (f x : ℤ) (steps used waiting : ℕ) →
+    run_by_number (Stopped why f x steps used waiting) ≡ Stopped (stops_with why) f x steps used waiting) ×
     ((e : Ending Stop) → told_run (Ok e) ≡ Ok (run_by_number e)) ×
     ((r : Refusal) → told_run (Err r) ≡ by_number (Err r))
 

@@ -6,7 +6,7 @@ use Rattle.plain.specs.declared.PlainEnding.TheVariants.{Done, Stopped}
 use Rattle.plain.specs.Told.{PlainTold, PlainToldOnce}
 
 pub plain_told : PlainTold
-plain_told = (λ slot steps used. refl, λ why steps used. refl, (refl, refl, refl), λ e. refl, λ r. refl)
+plain_told = (λ slot steps used. refl, λ why steps used. refl, λ e. refl, λ r. refl)
 
 pub plain_told_once : PlainToldOnce
 plain_told_once (Done slot steps used) (Done slot' steps' used') e = cc e

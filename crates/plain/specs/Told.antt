@@ -3,7 +3,6 @@ use Rattle.std.specs.Prelude.{ℕ, ◌≡◌, ℤ, Result, Ok, Err}
 use Rattle.refusals.specs.declared.Refusal.{Refusal}
 use Rattle.refusals.specs.Numbers.{refusal_number, by_number}
 use Rattle.stepping.specs.declared.stops.Stop.{Stop}
-use Rattle.stepping.specs.declared.stops.Stop.TheVariants.{OutOfFuel, OutOfSlots, OutOfPlaces}
 use Rattle.stepping.specs.Stops.{stops_with}
 use Rattle.plain.specs.declared.PlainEnding.{PlainEnding}
 use Rattle.plain.specs.declared.PlainEnding.TheVariants.{Done, Stopped}
@@ -17,12 +16,11 @@ abbrev pub told_plain : Result (PlainEnding Stop) Refusal → PlainAnswer
 told_plain (Ok e) = Ok (plain_by_number e)
 told_plain (Err r) = Err (refusal_number r)
 
--- Each answer with document 01's numbers: only why it stopped and what it is refused with have names.
+-- An answer stays what it is, but that its refusal or its stop becomes a number (StopsAre of stepping).
 abbrev pub PlainTold : Type 0
 PlainTold =
     ((slot : ℤ) (steps used : ℕ) → plain_by_number (Done slot steps used) ≡ Done slot steps used) ×
     ((why : Stop) (steps used : ℕ) → plain_by_number (Stopped why steps used) ≡ Stopped (stops_with why) steps used) ×
-    ((stops_with OutOfFuel ≡ 31) × (stops_with OutOfSlots ≡ 32) × (stops_with OutOfPlaces ≡ 33)) ×
     ((e : PlainEnding Stop) → told_plain (Ok e) ≡ Ok (plain_by_number e)) ×
     ((r : Refusal) → told_plain (Err r) ≡ by_number (Err r))
 

@@ -15,8 +15,8 @@ use stepping::stops::Stop;
 use table::base::base_of;
 use table::slots::Slot;
 
-// How a plain run that was let start ends; specs/Answer.antt gives the paper's numbers for each case. W says why it stopped, as of an
-// Ending.
+// How a plain run that was let start ends; specs/Answer.antt gives the paper's numbers for each case. W says why it stopped: C gets a
+// number.
 #[derive(Clone, Copy, Debug, PartialEq, Eq)]
 pub enum PlainEnding<W = Stop> {
     Done { slot: i32, steps: u32, used: u32 },

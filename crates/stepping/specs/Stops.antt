@@ -1,5 +1,5 @@
 -- The numbers of the stops in document 01's list.
-use Rattle.std.specs.Prelude.{ℕ}
+use Rattle.std.specs.Prelude.{ℕ, ◌≡◌}
 use Rattle.stepping.specs.declared.stops.Stop.{Stop}
 use Rattle.stepping.specs.declared.stops.Stop.TheVariants.{OutOfFuel, OutOfSlots, OutOfPlaces}
 
@@ -8,3 +8,7 @@ abbrev pub stops_with : Stop → ℕ
 stops_with OutOfFuel = 31
 stops_with OutOfSlots = 32
 stops_with OutOfPlaces = 33
+
+-- each has its number, whatever computes it
+abbrev pub StopsAre : Type 0
+StopsAre = (stops_with OutOfFuel ≡ 31) × (stops_with OutOfSlots ≡ 32) × (stops_with OutOfPlaces ≡ 33)
